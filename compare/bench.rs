@@ -1,0 +1,245 @@
+//! Self-tests on 01's own rows: labels, DATA limits, numbers, swap files, receiving.
+
+use crate::frame::{self, Address, Block, Body, Frame, Number};
+use crate::hex::{self, Hex};
+use crate::number;
+use crate::random_text;
+use crate::receiver::{Heard, Receiver};
+use crate::record::{LABEL, RAW};
+use crate::report::{same, Case, Disagreement};
+use crate::rng::Rng;
+use crate::swap::{self, Fault, Written};
+use crate::tool::{Request, Tool};
+use crate::utf8::{self, Characters, Fit, Octets};
+
+pub const ADDRESS: Address = [0x11, 0x22, 0x33, 0x44, 0x55, 0x66];
+pub const FOREIGN: Address = [0x11, 0x22, 0x33, 0x44, 0x55, 0x67];
+pub const KEY: Block = [0x13, 0x34, 0x57, 0x79, 0x9B, 0xBC, 0xDF, 0xF1];
+pub const NA1: Block = [0x01, 0x23, 0x45, 0x67, 0x89, 0xAB, 0xCD, 0xEF];
+pub const NA2: Block = [0xFE, 0xDC, 0xBA, 0x98, 0x76, 0x54, 0x32, 0x10];
+
+pub fn labels() -> Result<usize, Disagreement> {
+    let kept = |octets, characters| Fit::Kept(Octets(octets), Characters(characters));
+    let ill_formed_at = |offset| Fit::IllFormed(Octets(offset));
+    let rows = [
+        ("C389C3A9", 3, 9, kept(2, 1)),
+        ("C389C3A9", 4, 1, kept(2, 1)),
+        ("C389C3A9", 1, 9, kept(0, 0)),
+        ("", 0, 0, kept(0, 0)),
+        ("", 9, 9, kept(0, 0)),
+        ("E282AC", 2, 9, kept(0, 0)),
+        ("41C3", 9, 9, ill_formed_at(1)),
+        ("C080", 9, 9, ill_formed_at(0)),
+        ("EDA080", 9, 9, ill_formed_at(0)),
+        ("F4908080", 9, 9, ill_formed_at(0)),
+        ("5A6FC3A9", 116, 116, kept(4, 3)),
+    ];
+    for (label, octet_limit, character_limit, expected) in rows {
+        let fit = utf8::fit(&hex::octets(label), Octets(octet_limit), Characters(character_limit));
+        same(fit, expected, || format!("{label}, limits {octet_limit} and {character_limit}"))?;
+    }
+    Ok(rows.len())
+}
+
+/// TRF with 116 octets is 128 long, 117 is 7; REC DATA 100 passes, 101 is 7: as frames and as requests.
+/// TABi none and 41 are 7, after 17, and leave the buffer.
+pub fn data_limits() -> Result<usize, Disagreement> {
+    let rows = [(false, 116, Ok(128)), (false, 117, Err(7)), (true, 100, Ok(128)), (true, 101, Err(7))];
+    for (programming, count, expected) in rows {
+        let (tab, data) = (0x0A, vec![0x55; count]);
+        let (body, request) = if programming {
+            let (key, na1) = (KEY.to_vec(), NA1.to_vec());
+            (Body::Rec { na1: NA1, tab, data: data.clone() }, Request::Program { tab, data, key, na1 })
+        } else {
+            (Body::Trf { tab, data: data.clone() }, Request::Transfer { tab, data })
+        };
+        let mut buffer = [0; 128];
+        let frame = Frame { ads: ADDRESS, adp: 1, body };
+        same(frame.build(&mut buffer), expected, || format!("DATA of {count}"))?;
+        let begun = Tool::fresh().request(&ADDRESS, 1, &request, &mut buffer);
+        same(begun.map(|begun| begun.length), expected, || format!("request with DATA of {count}"))?;
+    }
+    let refusals = [(Body::Aso { tabs: vec![] }, 7), (Body::Aso { tabs: vec![0; 41] }, 7)];
+    for (body, expected) in refusals {
+        let frame = Frame { ads: ADDRESS, adp: 1, body };
+        let mut buffer = [0xEE; 128];
+        same(frame.build(&mut buffer), Err(expected), || format!("{frame:?}"))?;
+        same(frame.build(&mut buffer[..127]), Err(17), || format!("{frame:?}"))?;
+        same(Hex(&buffer), Hex(&[0xEE; 128]), || format!("{frame:?}"))?;
+    }
+    Ok(2 * rows.len() + 4)
+}
+
+pub fn numbers() -> Result<usize, Disagreement> {
+    same(Hex(&number::shortest_form(4096)), Hex(&[0x80, 0x20]), || "4096".into())?;
+    same(swap::read(&[0x81, 0x00]), Err(Fault(0)), || "8100".into())?;
+    for value in 0..=4096 {
+        let octets = number::shortest_form(value);
+        same(number::read(&octets, 4096), Some((value, octets.len())), || value.to_string())?;
+    }
+    Ok(4099)
+}
+
+const SAMPLE: &str = "02 112233445566 0A 01 04 5A6FC3A9 112233445566 0B 00 02 00FF";
+
+const SAMPLE_LISTING: &str = "records 2
+112233445566 0A label octets 4 characters 3
+112233445566 0B raw octets 2
+";
+
+/// 01's file, and a fault of every item in it.
+pub fn swap_files() -> Result<usize, Disagreement> {
+    same(swap::listing(&hex::octets(SAMPLE)), SAMPLE_LISTING.into(), || SAMPLE.into())?;
+    let faults = [
+        ("", 0),
+        ("80", 0),
+        ("8100", 0),
+        ("8120", 0),
+        ("01", 1),
+        ("02 112233445566 0A 01 04 5A6FC3A9 112233445566", 14),
+        ("02 112233445566 0A 01 04 5A6FC3A9 112233445566 0A 00 02 00FF", 14),
+        ("02 112233445566 0A 01 04 5A6FC3A9 112233445565 0B 00 02 00FF", 14),
+        ("01 112233445566 0A", 8),
+        ("01 112233445566 0A 02 00", 8),
+        ("01 112233445566 0A 01", 9),
+        ("01 112233445566 0A 00 75", 9),
+        ("01 112233445566 0A 00 8000", 9),
+        ("01 112233445566 0A 00 04 5A6FC3", 10),
+        ("01 112233445566 0A 01 04 5A6FC3C3", 10),
+        ("01 112233445566 0A 01 04 5A6FC3A9 00", 14),
+        ("00 00", 1),
+    ];
+    for (file, offset) in faults {
+        same(swap::listing(&hex::octets(file)), format!("refused 18 at {offset}\n"), || file.into())?;
+    }
+    same(swap::listing(&[0; 65_536]), "refused 18 at 1\n".into(), || "65536 zeros".into())?;
+    same(swap::listing(&[0; 65_537]), "refused 18 at 65536\n".into(), || "65537 zeros".into())?;
+    Ok(faults.len() + 3)
+}
+
+/// The writer: 18 with the reader's offset, even where the buffer is too short as well; the buffer is kept.
+pub fn swap_writer() -> Result<usize, Disagreement> {
+    let record =
+        |tab: u8, kind: u8, count: usize| swap::Record { ads: ADDRESS, tab, kind, data: vec![0x80; count] };
+    let long = |count: usize| -> Vec<swap::Record> {
+        let ads = |i: usize| [0, 0, 0, 0, (i / 256) as u8, (i % 256) as u8];
+        (0..count).map(|i| swap::Record { ads: ads(i), ..record(0, RAW, 116) }).collect()
+    };
+    let short = |count: usize| {
+        long(count).into_iter().map(|record| swap::Record { data: vec![], ..record }).collect()
+    };
+    let refused = |offset: usize| Written::Refused(18, Some(Fault(offset)));
+    let rows: [(Vec<swap::Record>, Written); 9] = [
+        (vec![], Written::Refused(17, None)),
+        (vec![record(1, RAW, 0)], Written::Refused(17, None)),
+        (vec![record(1, RAW, 0), record(1, RAW, 0)], refused(10)),
+        (vec![record(1, 2, 0)], refused(8)),
+        (vec![record(1, RAW, 117)], refused(9)),
+        (vec![record(1, LABEL, 1)], refused(10)),
+        (short(4096), Written::Refused(17, None)),
+        (short(4097), refused(0)),
+        ([vec![record(1, 2, 0)], long(525)].concat(), refused(65_536)),
+    ];
+    for (row, (records, expected)) in rows.iter().enumerate() {
+        same(swap::write(records, &mut []), *expected, || format!("writer row {row}"))?;
+    }
+    Ok(rows.len())
+}
+
+/// Read and written again; and an octet changed leaves a file that is
+/// refused or is the encoding of its records.
+pub fn swap_laws(rng: &mut Rng) -> Result<usize, Disagreement> {
+    let cases = 5_000;
+    for _ in 0..cases {
+        let records = random_records(rng);
+        let mut file = swap::encode(&records);
+        same(swap::read(&file), Ok(records.clone()), || hex::text(&file))?;
+        let mut buffer = vec![0xEE; file.len() + rng.below(2)];
+        let room = buffer.len();
+        same(swap::write(&records, &mut buffer[..file.len() - 1]), Written::Refused(17, None), || {
+            hex::text(&file)
+        })?;
+        same(Hex(&buffer), Hex(&vec![0xEE; room]), || hex::text(&file))?;
+        same(swap::write(&records, &mut buffer), Written::File(file.len()), || hex::text(&file))?;
+        same(Hex(&buffer), Hex(&[&file[..], &[0xEE; 1][..room - file.len()]].concat()), || hex::text(&file))?;
+        let place = rng.below(file.len());
+        file[place] ^= 1 << rng.below(8);
+        if let Ok(records) = swap::read(&file) {
+            same(Hex(&swap::encode(&records)), Hex(&file), || hex::text(&file))?;
+        }
+    }
+    Ok(cases)
+}
+
+/// Records that rise strictly by ADS then TAB.
+fn random_records(rng: &mut Rng) -> Vec<swap::Record> {
+    let mut records = vec![];
+    let mut ads = [0; 6];
+    for tab in 0..rng.below(6) as u8 {
+        ads[3 + rng.below(3)] += 1;
+        let label = rng.once_in(2);
+        let count = rng.below(20);
+        let data = if label { random_text::well_formed(rng, count) } else { rng.octets(count) };
+        records.push(swap::Record { ads, tab, kind: if label { LABEL } else { RAW }, data });
+    }
+    records
+}
+
+/// A receiver, and the steps it was taken through.
+struct ReceiverBench {
+    receiver: Receiver,
+    steps: usize,
+}
+
+impl ReceiverBench {
+    /// The places at which something is heard, with the number, or 0 for a good frame.
+    fn octets(&mut self, octets: &[u8], expected: &[(usize, Number)]) -> Case {
+        self.steps += 1;
+        let mut gave = vec![];
+        for (place, octet) in octets.iter().enumerate() {
+            match self.receiver.octet(*octet) {
+                Heard::Nothing => {}
+                Heard::Bad(number) => gave.push((place, number)),
+                Heard::Good(_) => gave.push((place, 0)),
+            }
+        }
+        same(&gave[..], expected, || format!("receiving step {}: {}", self.steps, hex::text(octets)))
+    }
+
+    fn gap(&mut self, expected: Option<Number>) -> Case {
+        self.steps += 1;
+        same(self.receiver.gap(), expected, || format!("receiving step {}: gap", self.steps))
+    }
+}
+
+/// 01, Receiving: 1 at the bad N, then silence; 3 for a gap inside a
+/// frame; 2, 4, 5 at completion; then an N again.
+pub fn receiving() -> Result<usize, Disagreement> {
+    let good = hex::octets("0C 665544332211 01 01 0A AA 35");
+    let wrong_crc = hex::octets("0C 665544332211 01 01 0A AA 34");
+    let unknown_command = frame::enclose(ADDRESS, 1, 0x0F, &[]);
+    let wrong_length = frame::enclose(ADDRESS, 1, 0x06, &[]);
+    let mut bench = ReceiverBench { receiver: Receiver::Empty, steps: 0 };
+    bench.gap(None)?;
+    for n in [0, 10, 129, 255] {
+        bench.octets(&[n], &[(0, 1)])?;
+        bench.octets(&good, &[])?;
+        bench.gap(None)?;
+        bench.octets(&good, &[(11, 0)])?;
+    }
+    bench.octets(&good[..1], &[])?;
+    bench.gap(Some(3))?;
+    bench.octets(&good[..11], &[])?;
+    bench.gap(Some(3))?;
+    bench.gap(None)?;
+    bench.octets(&[&good[..], &good].concat(), &[(11, 0), (23, 0)])?;
+    bench.octets(&[&wrong_crc[..], &good].concat(), &[(11, 2), (23, 0)])?;
+    bench.octets(&[&unknown_command[..], &good].concat(), &[(10, 4), (22, 0)])?;
+    bench.octets(&[&wrong_length[..], &good].concat(), &[(10, 5), (22, 0)])?;
+    for octets in [&[0xFF][..], &good[..5]] {
+        octets.iter().for_each(|octet| drop(bench.receiver.octet(*octet)));
+        bench.receiver.session_end();
+        bench.octets(&good, &[(11, 0)])?;
+    }
+    Ok(bench.steps)
+}

@@ -1,0 +1,150 @@
+//! The independent program: the papers' rules written a second time, bit by bit, from the papers alone,
+//! and compared with our libraries.
+//!
+//! `compare PART.. [--cases N] [--seed S]`; the parts are `vectors` (the program against published data
+//! and itself) and, where compiled in, `leaves`.
+
+mod bench;
+mod bench_card;
+mod bench_tool;
+mod book;
+mod card;
+mod crc;
+mod des;
+mod frame;
+mod hex;
+mod histories;
+mod listing;
+mod number;
+mod random_frames;
+mod random_history;
+mod random_text;
+mod receiver;
+mod record;
+mod report;
+mod rng;
+mod swap;
+mod tool;
+mod utf8;
+mod vectors;
+mod wire;
+
+#[cfg(part_leaves)]
+mod ffi;
+#[cfg(part_leaves)]
+mod leaves;
+
+use report::{tell, Disagreement};
+use rng::Rng;
+use std::io::{Read, Write};
+use std::process::ExitCode;
+
+struct Options {
+    parts: Vec<String>,
+    /// Random cases for each comparison.
+    cases: Option<usize>,
+    seed: u64,
+}
+
+fn options() -> Option<Options> {
+    let mut options = Options { parts: vec![], cases: None, seed: 1 };
+    let mut words = std::env::args().skip(1);
+    while let Some(word) = words.next() {
+        match &word[..] {
+            "--cases" => options.cases = Some(words.next()?.parse().ok()?),
+            "--seed" => options.seed = words.next()?.parse().ok()?,
+            _ => options.parts.push(word),
+        }
+    }
+    (!options.parts.is_empty()).then_some(options)
+}
+
+/// What one of our programs should print for standard input.
+fn print_expected(program: &str) -> ExitCode {
+    let mut input = Vec::new();
+    if std::io::stdin().read_to_end(&mut input).is_err() {
+        eprintln!("standard input cannot be read");
+        return ExitCode::from(2);
+    }
+    match listing::of(program, &input) {
+        Some(text) => {
+            // A set's name may hold any octet, so each character stands for one octet.
+            let octets: Vec<u8> = text.chars().map(|character| character as u8).collect();
+            std::io::stdout().write_all(&octets).map_or(ExitCode::from(2), |()| ExitCode::SUCCESS)
+        }
+        None => {
+            eprintln!("{program}: no such program");
+            ExitCode::from(2)
+        }
+    }
+}
+
+fn main() -> ExitCode {
+    if let [word, program] = &std::env::args().skip(1).collect::<Vec<_>>()[..] {
+        if word == "print" {
+            return print_expected(program);
+        }
+    }
+    let Some(options) = options() else {
+        eprintln!("usage: compare PART.. [--cases N] [--seed S], with PART one of vectors, leaves");
+        return ExitCode::from(2);
+    };
+    println!("seed {}", options.seed);
+    for part in &options.parts {
+        let mut rng = Rng::new(options.seed);
+        let agrees = match &part[..] {
+            "vectors" => self_tests(&mut rng, options.cases.unwrap_or(2_000)),
+            #[cfg(part_leaves)]
+            "leaves" => compare_leaves(&mut rng, options.cases.unwrap_or(100_000)),
+            _ => {
+                eprintln!("{part}: no such part in this build");
+                return ExitCode::from(2);
+            }
+        };
+        if !agrees {
+            return ExitCode::FAILURE;
+        }
+    }
+    ExitCode::SUCCESS
+}
+
+/// Tells a count of cases beside how many of them came to something, so that empty runs are seen.
+fn tell_with(part: &str, effect: &str, cases: Result<(usize, usize), Disagreement>) -> bool {
+    let effects = cases.as_ref().map_or(0, |(_, effects)| *effects);
+    tell(&format!("{part} ({effects} {effect})"), cases.map(|(count, _)| count))
+}
+
+/// The program against published data, 01's rows, and its own card, book and tool against one another.
+fn self_tests(rng: &mut Rng, cases: usize) -> bool {
+    tell("crc", vectors::crc(rng))
+        && tell("des", vectors::des())
+        && tell("utf8 beside Rust's library", vectors::utf8(rng))
+        && tell("worked frames", vectors::frames())
+        && tell("frame refusals", vectors::frame_refusals(rng))
+        && tell("frame laws", vectors::frame_laws(rng))
+        && tell("label rows", bench::labels())
+        && tell("data limit rows", bench::data_limits())
+        && tell("numbers", bench::numbers())
+        && tell("swap files", bench::swap_files())
+        && tell("swap writer rows", bench::swap_writer())
+        && tell("swap file laws", bench::swap_laws(rng))
+        && tell("receiving rows", bench::receiving())
+        && tell("card setup rows", bench_card::setups())
+        && tell("card exchange rows", bench_card::exchanges())
+        && tell("card soundness rows", bench_card::soundness())
+        && tell("tool wake-up rows", bench_tool::wake_ups())
+        && tell("tool refusal rows", bench_tool::refusals())
+        && tell("tool soundness rows", bench_tool::soundness())
+        && tell("tool replies", bench_tool::replies(rng))
+        && tell_with("card and book, events", "writes granted", histories::card_and_book(rng, cases))
+        && tell("taking out, frames", histories::taking_out(rng, cases / 4))
+        && tell_with("perfect wire, requests", "ended well", wire::tool_and_card(rng, cases, None))
+        && tell_with("lossy wire, requests", "ended well", wire::tool_and_card(rng, cases, Some(150)))
+}
+
+#[cfg(part_leaves)]
+fn compare_leaves(rng: &mut Rng, cases: usize) -> bool {
+    tell("leaves crc", leaves::crc(rng, cases))
+        && tell("leaves des, both ways", leaves::des(rng, cases))
+        && tell("leaves label", leaves::labels(rng, cases))
+}

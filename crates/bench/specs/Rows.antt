@@ -1,0 +1,41 @@
+-- The rows of 01, Measured on the bench, that are marked P, in the paper's order.
+use mathlib.Core.Path.{_≡_}
+use mathlib.Core.List.{List, [], _∷_}
+use Prim.Native.Nat.{ℕ}
+use Rattle.label.specs.declared.Octets.{Octets}
+use Rattle.label.specs.declared.Characters.{Characters}
+use Rattle.label.specs.Fitting.{Answer, given, refused, fitOf, inOctets, inCharacters}
+
+pub data Row : Type 0 where
+  -- a label, its octet limit and its character limit, and what fitting answers
+  fits : List ℕ → ℕ → ℕ → Answer (Octets × Characters) → Row
+
+-- what a row says
+abbrev pub Holds : Row → Type 0
+Holds (fits label octets characters answer) = fitOf label (inOctets octets) (inCharacters characters) ≡ answer
+
+-- each row of a list holds
+pub data Each : List Row → Type 0 where
+  none : Each []
+  next : {row : Row} {rows : List Row} → Holds row → Each rows → Each (row ∷ rows)
+
+-- so many octets and so many characters are kept
+abbrev pub kept : ℕ → ℕ → Answer (Octets × Characters)
+kept octets characters = given (inOctets octets, inCharacters characters)
+
+-- 8 with the offset
+abbrev pub illFormedAt : ℕ → Answer (Octets × Characters)
+illFormedAt offset = refused 8 (inOctets offset)
+
+-- `E2 82 AC` names no character limit in 01: 9, as the rows before it
+abbrev pub rows : List Row
+rows =
+    fits (0xC3 ∷ 0x89 ∷ 0xC3 ∷ 0xA9 ∷ []) 3 9 (kept 2 1) ∷
+    fits (0xC3 ∷ 0x89 ∷ 0xC3 ∷ 0xA9 ∷ []) 4 1 (kept 2 1) ∷
+    fits (0xC3 ∷ 0x89 ∷ 0xC3 ∷ 0xA9 ∷ []) 1 9 (kept 0 0) ∷
+    fits [] 3 9 (kept 0 0) ∷
+    fits (0xE2 ∷ 0x82 ∷ 0xAC ∷ []) 2 9 (kept 0 0) ∷
+    fits (0x41 ∷ 0xC3 ∷ []) 116 116 (illFormedAt 1) ∷
+    fits (0xC0 ∷ 0x80 ∷ []) 116 116 (illFormedAt 0) ∷
+    fits (0xED ∷ 0xA0 ∷ 0x80 ∷ []) 116 116 (illFormedAt 0) ∷
+    fits (0xF4 ∷ 0x90 ∷ 0x80 ∷ 0x80 ∷ []) 116 116 (illFormedAt 0) ∷ []

@@ -1,0 +1,9 @@
+mod Sum
+mod Division
+mod Remainder
+pub mod Quotient
+mod Bits
+pub mod CheckKey
+pub mod Receiver
+mod Table
+mod Vectors

@@ -1,0 +1,12 @@
+-- For other crates: `Inverse` has deciphering after enciphering and the other way round, and that each gives eight octets; `Parity` that the
+-- parity bits play no part; `Rows` the rule of the S-boxes; `Permutations` that IP and its inverse undo each other.
+pub mod Inverse
+pub mod Parity
+pub mod Rows
+pub mod Permutations
+mod Strings
+mod Held
+mod Tests
+mod KeySchedule
+mod Feistel
+mod Selection

@@ -1,0 +1,108 @@
+-- What a table selects, entry by entry; and IP and its inverse undo each other.
+-- Assumes nothing.
+use mathlib.Core.Path.{_≡_, refl, ap, sym, _∙_, subst}
+use mathlib.Core.Bool.{Bool, _&&_}
+use mathlib.Core.List.{List, [], _∷_, _++_}
+use Prim.Native.Nat.{ℕ, zero, suc, _+_, _-_, _*_, _/_, _%_, _^_, _<_, _≤_}
+use native.Mathlib.Nat.{not-suc-le-zero, le-of-suc-le-suc}
+use native.Mathlib.Numerals.{add-one}
+use native.Mathlib.Omega.{arith}
+use lib.Dec.{T, leb, ltb, eqb, leb→le, ltb→lt, eqb→eq, lit≤}
+use lib.ListN.{length, getD, take, length-map}
+use lib.Seq.{ext-getD, take-suc}
+use Rattle.des.specs.Tables.{IP, inverseIP, E, P, PC1, PC2}
+use Rattle.des.specs.Des.{bitsOf, permuted}
+use Rattle.des.specs.Words.{Word, within, Selects}
+use Rattle.des.proofs.Strings.{AreBits, getD-bitsOf}
+use Rattle.des.proofs.Held.{joined, single}
+use Rattle.des.proofs.Tests.{below, at, left, right}
+
+pub length-permuted : (t b : List ℕ) → length (permuted t b) ≡ length t
+unfolding permuted
+length-permuted t b = length-map t (λ i. getD b (i - 1) 0)
+
+pub getD-permuted : (t b : List ℕ) (i : ℕ) → i < length t → getD (permuted t b) i 0 ≡ getD b (getD t i 0 - 1) 0
+unfolding permuted
+getD-permuted [] b i h = absurd (not-suc-le-zero h)
+getD-permuted (x ∷ t) b zero h = refl
+getD-permuted (x ∷ t) b (suc i) h = getD-permuted t b i (le-of-suc-le-suc h)
+
+pub permuted-append : (t u b : List ℕ) → permuted (t ++ u) b ≡ permuted t b ++ permuted u b
+unfolding permuted
+permuted-append [] u b = refl
+permuted-append (x ∷ t) u b = ap (λ (l : List ℕ). getD b (x - 1) 0 ∷ l) (permuted-append t u b)
+
+-- every entry of a table that is within n is from 1 to n
+pub within-at : (n : ℕ) (t : List ℕ) → T (within n t) → (i : ℕ) → i < length t → (1 ≤ getD t i 0) × (getD t i 0 ≤ n)
+within-at n [] h i l = absurd (not-suc-le-zero l)
+within-at n (x ∷ t) h zero l =
+    let e = left (leb 1 x && leb x n) (within n t) h in
+    (leb→le 1 x (left (leb 1 x) (leb x n) e), leb→le x n (right (leb 1 x) (leb x n) e))
+within-at n (x ∷ t) h (suc i) l = within-at n t (right (leb 1 x && leb x n) (within n t) h) i (le-of-suc-le-suc l)
+
+-- the bit that an entry names, in a word of n bits
+pub named : (n w x : ℕ) → 1 ≤ x → x ≤ n → w / 2 ^ (n - x) % 2 ≡ getD (bitsOf n w) (x - 1) 0
+named n w x h k = let e : n - suc (x - 1) ≡ n - x = omega arith in sym (getD-bitsOf n w (x - 1) (omega arith) ∙ ap (λ (j : ℕ). w / 2 ^ j % 2) e)
+
+-- one entry more of the table
+pub permuted-more : (t b : List ℕ) (i acc : ℕ) → i < length t → AreBits b → Word i (permuted (take i t) b) acc
+    → Word (i + 1) (permuted (take (i + 1) t) b) (acc * 2 + getD b (getD t i 0 - 1) 0)
+unfolding permuted
+permuted-more t b i acc h bs p =
+    subst (λ (l : List ℕ). Word (i + 1) l (acc * 2 + getD b (getD t i 0 - 1) 0))
+    (sym (ap (λ (l : List ℕ). permuted l b) (ap (λ (n : ℕ). take n t) (add-one i) ∙ take-suc t i 0 h) ∙ permuted-append (take i t) (getD t i 0 ∷ []) b))
+    (joined p (single (getD b (getD t i 0 - 1) 0) (bs (getD t i 0 - 1))))
+
+-- at each place of u, the entry of t that it names leads back to that place
+unfoldable pub undoes : List ℕ → List ℕ → Bool
+undoes u t = below (length u) (λ i. ltb (getD u i 0 - 1) (length t) && eqb (getD t (getD u i 0 - 1) 0 - 1) i)
+
+pub undone : (u t b : List ℕ) → T (undoes u t) → length b ≡ length u → permuted u (permuted t b) ≡ b
+unfolding undoes
+undone u t b h l =
+    ext-getD 0 (permuted u (permuted t b)) b (length-permuted u (permuted t b) ∙ sym l)
+    (λ i k.
+    let j = getD u i 0 - 1 in
+    let m : i < length u = omega (arith, length-permuted u (permuted t b)) in
+    let test = at (length u) (λ i. ltb (getD u i 0 - 1) (length t) && eqb (getD t (getD u i 0 - 1) 0 - 1) i) h i m in
+    getD-permuted u (permuted t b) i m
+    ∙ getD-permuted t b j (ltb→lt j (length t) (left (ltb j (length t)) (eqb (getD t j 0 - 1) i) test))
+    ∙ ap (λ (n : ℕ). getD b n 0) (eqb→eq (getD t j 0 - 1) i (right (ltb j (length t)) (eqb (getD t j 0 - 1) i) test)))
+
+pub inverse-after-initial : (b : List ℕ) → length b ≡ 64 → permuted inverseIP (permuted IP b) ≡ b
+unfolding undoes IP inverseIP
+inverse-after-initial b l = undone inverseIP IP b tt l
+
+pub initial-after-inverse : (b : List ℕ) → length b ≡ 64 → permuted IP (permuted inverseIP b) ≡ b
+unfolding undoes IP inverseIP
+initial-after-inverse b l = undone IP inverseIP b tt l
+
+-- ---- the tables of FIPS 46-3: antt tests each entry
+
+pub selects-IP : Selects 64 IP
+unfolding IP
+selects-IP = record { bits = lit≤ tt; entries = lit≤ tt; inside = tt }
+
+pub selects-inverseIP : Selects 64 inverseIP
+unfolding inverseIP
+selects-inverseIP = record { bits = lit≤ tt; entries = lit≤ tt; inside = tt }
+
+pub selects-E : Selects 32 E
+unfolding E
+selects-E = record { bits = lit≤ tt; entries = lit≤ tt; inside = tt }
+
+pub selects-P : Selects 32 P
+unfolding P
+selects-P = record { bits = lit≤ tt; entries = lit≤ tt; inside = tt }
+
+pub selects-PC1 : Selects 64 PC1
+unfolding PC1
+selects-PC1 = record { bits = lit≤ tt; entries = lit≤ tt; inside = tt }
+
+pub selects-PC2 : Selects 56 PC2
+unfolding PC2
+selects-PC2 = record { bits = lit≤ tt; entries = lit≤ tt; inside = tt }
+
+-- a slice that holds a table, and a word that holds a string, give what the table selects of the string
+pub by-table : {t u x b : List ℕ} {r : ℕ} → t ≡ u → x ≡ b → Word (length t) (permuted t x) r → Word (length u) (permuted u b) r
+by-table {t} {u} {x} {b} {r} e h p = rw (e, h) at p

@@ -1,0 +1,5 @@
+pub mod Tables
+pub mod Des
+pub mod Rows
+pub mod Words
+mod Examples

@@ -1,0 +1,9 @@
+pub mod Table
+pub mod Lead
+pub mod Sequence
+pub mod Run
+pub mod Whole
+pub mod Longest
+pub mod Turn
+pub mod Answers
+pub mod Laws
