@@ -42,7 +42,13 @@ pub extern "C" fn propolisk_des_decipher(key: &[u8; 8], block: &mut [u8; 8])
 
 // The kept part's two counts and 0, or 8 with the offset in place of the octet count.
 #[no_mangle]
-pub extern "C" fn propolisk_label_fit(label: &[u8], octet_limit: usize, character_limit: usize, octets: &mut usize, characters: &mut usize) -> u8
+pub extern "C" fn propolisk_label_fit(
+    label: &[u8],
+    octet_limit: usize,
+    character_limit: usize,
+    octets: &mut usize,
+    characters: &mut usize,
+) -> u8
     ensures { λ r. ⌜ record { number = r; octets = now (octets .exit); characters = now (characters .exit) } ≡ report (fitOf (now (label .entry)) (inOctets «octet_limit») (inCharacters «character_limit»)) (now (characters .entry)) ⌝ }
 {
     let fitting = label::fit(label, Octets(octet_limit), Characters(character_limit));
