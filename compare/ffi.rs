@@ -86,3 +86,94 @@ pub mod leaves {
         }
     }
 }
+
+/// The archive libframe_exports.a: the builder and the reader of whole frames.
+#[cfg(part_frames)]
+pub mod frames {
+    use super::Lent;
+    use crate::frame::{Address, Block};
+
+    /// COM and the fields that a frame can have; `station` is RSO's second ADS.
+    #[derive(Clone, PartialEq, Debug)]
+    pub struct Fields {
+        pub code: u8,
+        pub ads: Address,
+        pub adp: u8,
+        pub za1: Block,
+        pub za2: Block,
+        pub tab: u8,
+        pub station: Address,
+    }
+
+    #[link(name = "frame_exports", kind = "static")]
+    extern "C" {
+        fn propolisk_frame_build(
+            buffer: *mut u8,
+            room: usize,
+            code: u8,
+            ads: *const Address,
+            adp: u8,
+            za1: *const Block,
+            za2: *const Block,
+            tab: u8,
+            station: *const Address,
+            data: *const u8,
+            count: usize,
+            length: *mut usize,
+        ) -> u8;
+        fn propolisk_frame_read(
+            octets: *const u8,
+            count: usize,
+            code: *mut u8,
+            ads: *mut Address,
+            adp: *mut u8,
+            za1: *mut Block,
+            za2: *mut Block,
+            tab: *mut u8,
+            station: *mut Address,
+            data: *mut u8,
+            length: *mut usize,
+        ) -> u8;
+    }
+
+    pub fn build(buffer: &mut Lent, fields: &Fields, data: &[u8], length: &mut usize) -> u8 {
+        let room = buffer.count();
+        unsafe {
+            propolisk_frame_build(
+                buffer.pointer(),
+                room,
+                fields.code,
+                &fields.ads,
+                fields.adp,
+                &fields.za1,
+                &fields.za2,
+                fields.tab,
+                &fields.station,
+                data.as_ptr(),
+                data.len(),
+                length,
+            )
+        }
+    }
+
+    /// DATA has room for 116 octets.
+    pub fn read(octets: &mut Lent, fields: &mut Fields, data: &mut [u8], length: &mut usize) -> u8 {
+        assert_eq!(data.len(), 116);
+        let count = octets.count();
+        unsafe {
+            propolisk_frame_read(
+                octets.pointer(),
+                count,
+                &mut fields.code,
+                &mut fields.ads,
+                &mut fields.adp,
+                &mut fields.za1,
+                &mut fields.za2,
+                &mut fields.tab,
+                &mut fields.station,
+                data.as_mut_ptr(),
+                length,
+            )
+        }
+    }
+}

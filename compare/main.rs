@@ -16,6 +16,7 @@ mod hex;
 mod histories;
 mod listing;
 mod number;
+mod programs;
 mod random_frames;
 mod random_history;
 mod random_text;
@@ -29,8 +30,10 @@ mod utf8;
 mod vectors;
 mod wire;
 
-#[cfg(part_leaves)]
+#[cfg(any(part_leaves, part_frames))]
 mod ffi;
+#[cfg(part_frames)]
+mod frames;
 #[cfg(part_leaves)]
 mod leaves;
 
@@ -86,7 +89,7 @@ fn main() -> ExitCode {
         }
     }
     let Some(options) = options() else {
-        eprintln!("usage: compare PART.. [--cases N] [--seed S], with PART one of vectors, leaves");
+        eprintln!("usage: compare PART.. [--cases N] [--seed S], with PART one of vectors, leaves, frames, framelist");
         return ExitCode::from(2);
     };
     println!("seed {}", options.seed);
@@ -96,6 +99,11 @@ fn main() -> ExitCode {
             "vectors" => self_tests(&mut rng, options.cases.unwrap_or(2_000)),
             #[cfg(part_leaves)]
             "leaves" => compare_leaves(&mut rng, options.cases.unwrap_or(100_000)),
+            #[cfg(part_frames)]
+            "frames" => compare_frames(&mut rng, options.cases.unwrap_or(100_000)),
+            "framelist" => {
+                tell("framelist, frames", programs::framelist(&mut rng, options.cases.unwrap_or(100_000)))
+            }
             _ => {
                 eprintln!("{part}: no such part in this build");
                 return ExitCode::from(2);
@@ -147,4 +155,9 @@ fn compare_leaves(rng: &mut Rng, cases: usize) -> bool {
     tell("leaves crc", leaves::crc(rng, cases))
         && tell("leaves des, both ways", leaves::des(rng, cases))
         && tell("leaves label", leaves::labels(rng, cases))
+}
+
+#[cfg(part_frames)]
+fn compare_frames(rng: &mut Rng, cases: usize) -> bool {
+    tell("frames built", frames::build(rng, cases)) && tell("frames read", frames::read(rng, cases))
 }

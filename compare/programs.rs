@@ -1,0 +1,71 @@
+//! Our programs, run on random and damaged input, beside what they should print.
+
+use crate::frame;
+use crate::hex;
+use crate::listing;
+use crate::random_frames;
+use crate::report::{same, Case, Disagreement};
+use crate::rng::Rng;
+use std::io::Write;
+use std::process::{Command, Stdio};
+
+/// What a program of `target/bin/` prints for an input.
+fn printed(program: &str, input: &[u8]) -> std::io::Result<Vec<u8>> {
+    let path = format!("target/bin/{program}");
+    let mut child = Command::new(path).stdin(Stdio::piped()).stdout(Stdio::piped()).spawn()?;
+    let mut pipe = child.stdin.take().expect("a pipe to the program");
+    let input = input.to_vec();
+    // A program may end before it has read all of a long input.
+    let writer = std::thread::spawn(move || pipe.write_all(&input).ok());
+    let output = child.wait_with_output()?;
+    writer.join().expect("the writer ends");
+    Ok(output.stdout)
+}
+
+fn case(program: &str, input: &[u8]) -> Case {
+    let gave = printed(program, input).map(|text| String::from_utf8_lossy(&text).into_owned());
+    let expected = listing::of(program, input).expect("a program with a listing");
+    same(gave.map_err(|error| error.to_string()), Ok(expected), || hex::text(input))
+}
+
+/// One stream between two gaps: frames, damaged frames and noise, often cut at the end.
+fn stream(rng: &mut Rng) -> (Vec<u8>, usize) {
+    let (mut octets, mut frames) = (vec![], 0);
+    for _ in 0..rng.below(60) {
+        let ads = rng.field();
+        let count = rng.below(20);
+        octets.extend(match rng.below(12) {
+            0 if rng.once_in(4) => rng.octets(count),
+            0..=3 => random_frames::damaged(rng, ads),
+            _ => random_frames::frame(rng, ads).octets().expect("DATA within its limit"),
+        });
+        frames += 1;
+    }
+    if rng.once_in(3) {
+        octets.truncate(rng.below(octets.len() + 1));
+    }
+    (octets, frames)
+}
+
+/// Streams with so many frames in all; a gap ends each stream, and the receiver starts anew after it. Then a stream of
+/// every length from 0 to 130 that starts with each N about the bounds.
+pub fn framelist(rng: &mut Rng, cases: usize) -> Result<usize, Disagreement> {
+    let mut tried = 0;
+    while tried < cases {
+        let (octets, frames) = stream(rng);
+        case("framelist", &octets)?;
+        tried += frames;
+    }
+    for count in 0..=130 {
+        let n = rng.pick(&[0, 10, 11, 12, 27, 128, 129, 255]);
+        let mut octets = rng.octets(count);
+        if let Some(first) = octets.first_mut() {
+            *first = n;
+        }
+        case("framelist", &octets)?;
+        let good = frame::enclose(rng.field(), rng.octet(), 0x0C, &rng.octets(count.clamp(1, 117)));
+        case("framelist", &[good, octets].concat())?;
+        tried += 2;
+    }
+    Ok(tried)
+}
