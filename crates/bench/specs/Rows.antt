@@ -2,16 +2,35 @@
 use mathlib.Core.Path.{_≡_}
 use mathlib.Core.List.{List, [], _∷_}
 use Prim.Native.Nat.{ℕ}
+use lib.ListN.{replicate}
 use Rattle.label.specs.declared.Octets.{Octets}
 use Rattle.label.specs.declared.Characters.{Characters}
 use Rattle.label.specs.Fitting.{Answer, given, refused, fitOf, inOctets, inCharacters}
+use Rattle.frame.specs.declared.codes.Command.{Command}
+use Rattle.frame.specs.declared.codes.Command.the-variants.{Rec, Trf}
+use Rattle.frame.specs.declared.builder.Built.{Built}
+use Rattle.frame.specs.declared.builder.Built.the-variants as built
+use Rattle.frame.specs.Checks.{noFields}
+use Rattle.frame.specs.Building.{built, refusalNumber}
+
+-- what building a frame comes to: its whole length, or 01's number
+pub data Frame : Type 0 where
+  whole : ℕ → Frame
+  number : ℕ → Frame
+
+abbrev pub frameOf : Built → Frame
+frameOf (built.Frame octets) = whole (octets .0)
+frameOf (built.Refused refusal) = number (refusalNumber refusal)
 
 pub data Row : Type 0 where
+  -- a command with so many octets of DATA in a buffer of 128, and what building it comes to
+  builds : Command → ℕ → Frame → Row
   -- a label, its octet limit and its character limit, and what fitting answers
   fits : List ℕ → ℕ → ℕ → Answer (Octets × Characters) → Row
 
 -- what a row says
 abbrev pub Holds : Row → Type 0
+Holds (builds command count frame) = frameOf (built (replicate 128 0) command noFields (replicate count 0) .answer) ≡ frame
 Holds (fits label octets characters answer) = fitOf label (inOctets octets) (inCharacters characters) ≡ answer
 
 -- each row of a list holds
@@ -30,6 +49,10 @@ illFormedAt offset = refused 8 (inOctets offset)
 -- `E2 82 AC` names no character limit in 01: 9, as the rows before it
 abbrev pub rows : List Row
 rows =
+    builds Trf 116 (whole 128) ∷
+    builds Trf 117 (number 7) ∷
+    builds Rec 100 (whole 128) ∷
+    builds Rec 101 (number 7) ∷
     fits (0xC3 ∷ 0x89 ∷ 0xC3 ∷ 0xA9 ∷ []) 3 9 (kept 2 1) ∷
     fits (0xC3 ∷ 0x89 ∷ 0xC3 ∷ 0xA9 ∷ []) 4 1 (kept 2 1) ∷
     fits (0xC3 ∷ 0x89 ∷ 0xC3 ∷ 0xA9 ∷ []) 1 9 (kept 0 0) ∷

@@ -1,0 +1,93 @@
+-- Two good frames that differ only in zero fields and CRC read the same.
+-- offsets outside the zero fields: the head, each field that carries a value, and DATA
+use Prim.Native.Nat.{ℕ, _+_, _-_, _≤_, _<_}
+use mathlib.Core.Path.{_≡_, sym, _∙_}
+use mathlib.Core.List.{List}
+use mathlib.Core.Bool.{false}
+use native.Mathlib.Omega.{arith}
+use lib.ListN.{length, getD}
+use Rattle.octets.proofs.Parts.{part-agree}
+use Rattle.frame.specs.declared.codes.Command.{Command}
+use Rattle.frame.specs.declared.layout.Layout.{Layout}
+use Rattle.frame.specs.declared.layout.Presence.the-variants.{Carried}
+use Rattle.frame.specs.declared.checks.Verdict.the-variants.{Good}
+use Rattle.frame.specs.Layout.{layoutOf, width, placesOf}
+use Rattle.frame.specs.Content.{fieldsOf, dataOf, inZero, inZeroField}
+use Rattle.frame.specs.Checks.{inspected, readOf, fieldsIn}
+use Rattle.frame.proofs.CodeTable.{codes-differ}
+use Rattle.frame.proofs.Widths.{has-bounds}
+use Rattle.frame.proofs.GoodFrame.{inspected-good}
+use Rattle.frame.proofs.OneField.{value-agrees, octet-agrees, zero-not-before, zero-not-after, zero-not-carried}
+
+module _ (l : Layout) (i : ℕ) where
+  none : inZero (l .za1) 8 9 i ≡ false → inZero (l .za2) 8 (placesOf l .za2) i ≡ false → inZero (l .tab) 1 (placesOf l .tab) i ≡ false
+      → inZero (l .station) 6 (placesOf l .station) i ≡ false → inZeroField l i ≡ false
+  unfolding inZeroField
+  none a b c d = rw (a, b, c, d)
+
+  head-free : i < 9 → inZeroField l i ≡ false
+  head-free h =
+      none (zero-not-before (l .za1) 8 9 i h) (zero-not-before (l .za2) 8 (placesOf l .za2) i (omega arith))
+      (zero-not-before (l .tab) 1 (placesOf l .tab) i (omega arith)) (zero-not-before (l .station) 6 (placesOf l .station) i (omega arith))
+
+  za1-free : l .za1 ≡ Carried → i < placesOf l .za2 → inZeroField l i ≡ false
+  za1-free e h =
+      none (zero-not-carried (l .za1) 8 9 i e) (zero-not-before (l .za2) 8 (placesOf l .za2) i h)
+      (zero-not-before (l .tab) 1 (placesOf l .tab) i (omega arith)) (zero-not-before (l .station) 6 (placesOf l .station) i (omega arith))
+
+  za2-free : l .za2 ≡ Carried → placesOf l .za2 ≤ i → i < placesOf l .tab → inZeroField l i ≡ false
+  za2-free e a h =
+      none (zero-not-after (l .za1) 8 9 i a) (zero-not-carried (l .za2) 8 (placesOf l .za2) i e)
+      (zero-not-before (l .tab) 1 (placesOf l .tab) i h) (zero-not-before (l .station) 6 (placesOf l .station) i (omega arith))
+
+  tab-free : l .tab ≡ Carried → placesOf l .tab ≤ i → i < placesOf l .station → inZeroField l i ≡ false
+  tab-free e a h =
+      none (zero-not-after (l .za1) 8 9 i (omega arith)) (zero-not-after (l .za2) 8 (placesOf l .za2) i a)
+      (zero-not-carried (l .tab) 1 (placesOf l .tab) i e) (zero-not-before (l .station) 6 (placesOf l .station) i h)
+
+  station-free : l .station ≡ Carried → placesOf l .station ≤ i → inZeroField l i ≡ false
+  station-free e a =
+      none (zero-not-after (l .za1) 8 9 i (omega arith)) (zero-not-after (l .za2) 8 (placesOf l .za2) i (omega arith))
+      (zero-not-after (l .tab) 1 (placesOf l .tab) i a) (zero-not-carried (l .station) 6 (placesOf l .station) i e)
+
+  data-free : placesOf l .content ≤ i → inZeroField l i ≡ false
+  data-free a =
+      none (zero-not-after (l .za1) 8 9 i (omega arith)) (zero-not-after (l .za2) 8 (placesOf l .za2) i (omega arith))
+      (zero-not-after (l .tab) 1 (placesOf l .tab) i (omega arith)) (zero-not-after (l .station) 6 (placesOf l .station) i a)
+
+-- where s and t agree outside the zero fields and the CRC
+module _ (c : Command) (s t : List ℕ) (room : placesOf (layoutOf c) .content + 2 ≤ length s) (same-length : length s ≡ length t)
+    (same : (i : ℕ) → i + 2 < length s → inZeroField (layoutOf c) i ≡ false → getD s i 0 ≡ getD t i 0) where
+  fields-same : fieldsOf c s ≡ fieldsOf c t
+  unfolding fieldsOf
+  fields-same =
+      let l = layoutOf c in
+      let p = placesOf l in
+      let ads = value-agrees Carried 6 s t 1 same-length (λ e i a b. same i (omega arith) (head-free l i (omega arith))) in
+      let za1 = value-agrees (l .za1) 8 s t 9 same-length (λ e i a b. let w : width (l .za1) 8 ≡ 8 = rw e in same i (omega arith) (za1-free l i e (omega arith))) in
+      let za2 = value-agrees (l .za2) 8 s t (p .za2) same-length (λ e i a b. let w : width (l .za2) 8 ≡ 8 = rw e in same i (omega arith) (za2-free l i e a (omega arith))) in
+      let tab = octet-agrees (l .tab) s t (p .tab) (λ e. let w : width (l .tab) 1 ≡ 1 = rw e in same (p .tab) (omega arith) (tab-free l (p .tab) e (omega arith) (omega arith))) in
+      let station = value-agrees (l .station) 6 s t (p .station) same-length (λ e i a b. let w : width (l .station) 6 ≡ 6 = rw e in same i (omega arith) (station-free l i e a)) in
+      rw (ads, same 7 (omega arith) (head-free l 7 (omega arith)), za1, za2, tab, station)
+
+  data-same : dataOf c s ≡ dataOf c t
+  unfolding dataOf
+  data-same =
+      rw (← same-length)
+      (part-agree s t (placesOf (layoutOf c) .content) (length s - 2) same-length (λ i a b. same i (omega arith) (data-free (layoutOf c) i a)))
+
+pub reads-same : (c e : Command) (s t : List ℕ) → inspected s ≡ Good c → inspected t ≡ Good e
+    → ((i : ℕ) → i + 2 < length s → inZeroField (layoutOf c) i ≡ false → getD s i 0 ≡ getD t i 0)
+    → (readOf s ≡ readOf t) × (dataOf c s ≡ dataOf c t)
+unfolding readOf fieldsIn
+reads-same c e s t good-s good-t same =
+    let gs = inspected-good s c good-s in
+    let gt = inspected-good t e good-t in
+    let b = has-bounds (layoutOf c) (length s) (gs .checked .long) in
+    let first : getD s 0 0 ≡ getD t 0 0 = same 0 (omega (arith, gs .least)) (head-free (layoutOf c) 0 (omega arith)) in
+    let code : getD s 8 0 ≡ getD t 8 0 = same 8 (omega (arith, gs .least)) (head-free (layoutOf c) 8 (omega arith)) in
+    let long : length s ≡ length t = omega (arith, gs .n, gt .n, first) in
+    let command : c ≡ e = codes-differ c e (gs .checked .command ∙ code ∙ sym (gt .checked .command)) in (
+      rw (good-s, good-t, ← command, fields-same c s t (omega arith) long same),
+      data-same c s t (omega arith) long same,
+    )

@@ -1,0 +1,22 @@
+-- The first step of `inspected`, which asks whether there is an N.
+use Prim.Native.Nat.{ℕ}
+use mathlib.Core.Path.{_≡_, refl}
+use mathlib.Core.List.{List, [], _∷_}
+use native.Mathlib.Omega.{arith}
+use lib.ListN.{length, getD}
+use Rattle.frame.specs.declared.checks.Verdict.the-variants.{Refused}
+use Rattle.frame.specs.declared.checks.Fault.the-variants.{Cut}
+use Rattle.frame.specs.Checks.{statedBy, inspected, inspectedAs}
+
+pub inspected-empty : (s : List ℕ) → length s ≡ 0 → inspected s ≡ Refused Cut
+unfolding inspected
+inspected-empty [] e = refl
+inspected-empty (n ∷ s) e = absurd (none e)
+  where
+    none : length (n ∷ s) ≡ 0 → ⊥
+    none e = omega arith
+
+pub inspected-from : (s : List ℕ) → (length s ≡ 0 → ⊥) → inspected s ≡ inspectedAs (statedBy (getD s 0 0)) s
+unfolding inspected
+inspected-from [] h = absurd (h refl)
+inspected-from (n ∷ s) h = refl

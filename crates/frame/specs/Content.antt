@@ -1,0 +1,105 @@
+-- One field, on the wire and in memory.
+-- what the type of a value of `Fields` says: how long its arrays are, and that their elements are octets
+use Prim.Native.Nat.{ℕ, _+_, _-_, _<_}
+use mathlib.Core.Path.{_≡_}
+use mathlib.Core.Bool.{Bool, false, _&&_, _||_}
+use mathlib.Core.List.{List, [], reverse}
+use lib.Dec.{leb, ltb}
+use lib.ListN.{length, getD, replicate}
+use Rattle.octets.specs.Splice.{spliced}
+use Rattle.octets.specs.Part.{partOf}
+use Rattle.frame.specs.declared.codes.Command.{Command}
+use Rattle.frame.specs.declared.layout.Presence.{Presence}
+use Rattle.frame.specs.declared.layout.Presence.the-variants.{Absent, Zero, Carried}
+use Rattle.frame.specs.declared.layout.Layout.{Layout}
+use Rattle.frame.specs.declared.content.Fields.{Fields}
+use Rattle.frame.specs.Layout.{layoutOf, placesOf}
+
+pub record Shaped (f : Fields) : Type 0 where
+  pub ads-long : length (f .ads) ≡ 6
+  pub za1-long : length (f .za1) ≡ 8
+  pub za2-long : length (f .za2) ≡ 8
+  pub station-long : length (f .station) ≡ 6
+  pub ads-octets : (i : ℕ) → getD (f .ads) i 0 < 256
+  pub za1-octets : (i : ℕ) → getD (f .za1) i 0 < 256
+  pub za2-octets : (i : ℕ) → getD (f .za2) i 0 < 256
+  pub station-octets : (i : ℕ) → getD (f .station) i 0 < 256
+  pub adp-octet : f .adp < 256
+  pub tab-octet : f .tab < 256
+
+-- 004 4.4.8: "the transmission begins with the least significant byte and ends with the most significant one". A value in memory has the
+-- most significant octet first, as it is written, so either order is the other one turned.
+abbrev pub turned : List ℕ → List ℕ
+turned v = reverse v
+
+-- the octets of a field with the value v
+unfoldable pub onWire : Presence → List ℕ → List ℕ
+onWire Absent v = []
+onWire Zero v = replicate (length v) 0
+onWire Carried v = turned v
+
+-- the value of a field of n octets at offset at of the frame s; a field that carries none reads as zero
+unfoldable pub valueAt : Presence → ℕ → List ℕ → ℕ → List ℕ
+valueAt Absent n s at = replicate n 0
+valueAt Zero n s at = replicate n 0
+valueAt Carried n s at = spliced (replicate n 0) 0 (turned (partOf s at (at + n)))
+
+-- the same for a field of one octet
+unfoldable pub octetAt : Presence → List ℕ → ℕ → ℕ
+octetAt Absent s at = 0
+octetAt Zero s at = 0
+octetAt Carried s at = getD s at 0
+
+-- the fields of a frame s with this command; a field that the command does not carry is zero
+unfoldable pub fieldsOf : Command → List ℕ → Fields
+fieldsOf c s =
+    let l = layoutOf c in
+    let p = placesOf l in
+    record {
+      ads = valueAt Carried 6 s 1;
+      adp = getD s 7 0;
+      za1 = valueAt (l .za1) 8 s 9;
+      za2 = valueAt (l .za2) 8 s (p .za2);
+      tab = octetAt (l .tab) s (p .tab);
+      station = valueAt (l .station) 6 s (p .station);
+    }
+
+-- its DATA: what stands between the other fields and the CRC
+unfoldable pub dataOf : Command → List ℕ → List ℕ
+dataOf c s = partOf s (placesOf (layoutOf c) .content) (length s - 2)
+
+-- what a field with the value v carries
+unfoldable pub kept : Presence → List ℕ → List ℕ
+kept Absent v = replicate (length v) 0
+kept Zero v = replicate (length v) 0
+kept Carried v = v
+
+unfoldable pub keptOctet : Presence → ℕ → ℕ
+keptOctet Absent x = 0
+keptOctet Zero x = 0
+keptOctet Carried x = x
+
+-- of these fields those that the command carries; the others are zero
+unfoldable pub carried : Command → Fields → Fields
+carried c f =
+    let l = layoutOf c in
+    record {
+      ads = f .ads;
+      adp = f .adp;
+      za1 = kept (l .za1) (f .za1);
+      za2 = kept (l .za2) (f .za2);
+      tab = keptOctet (l .tab) (f .tab);
+      station = kept (l .station) (f .station);
+    }
+
+-- whether offset i lies in a zero field of n octets at offset at
+unfoldable pub inZero : Presence → ℕ → ℕ → ℕ → Bool
+inZero Absent n at i = false
+inZero Zero n at i = leb at i && ltb i (at + n)
+inZero Carried n at i = false
+
+-- whether offset i lies in a zero field of the layout
+unfoldable pub inZeroField : Layout → ℕ → Bool
+inZeroField l i =
+    let p = placesOf l in
+    inZero (l .za1) 8 9 i || (inZero (l .za2) 8 (p .za2) i || (inZero (l .tab) 1 (p .tab) i || inZero (l .station) 6 (p .station) i))

@@ -1,0 +1,3 @@
+pub mod Splice
+pub mod Part
+pub mod Between

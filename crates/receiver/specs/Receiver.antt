@@ -1,0 +1,111 @@
+-- A receiver by value: which reception it holds, when it is refused, and what each event gives and leaves.
+use Prim.Native.Nat.{ℕ, _≤_, _<_}
+use mathlib.Core.Path.{_≡_, refl}
+use mathlib.Core.List.{List, [], _∷_, _++_}
+use mathlib.Core.Bool.{Bool, true, false, cond, _||_}
+use lib.ListN.{length, getD, take, replicate}
+use lib.Dec.{eqb, ltb}
+use Rattle.octets.specs.Splice.{fronted}
+use Rattle.frame.specs.declared.checks.Stated.{Stated}
+use Rattle.frame.specs.declared.checks.Stated.the-variants.{Whole, Outside}
+use Rattle.frame.specs.Checks.{faultNumber, statedBy}
+use Rattle.receiver.specs.declared.Receiver.{Receiver}
+use Rattle.receiver.specs.declared.Event.{Event}
+use Rattle.receiver.specs.declared.Event.the-variants.{Nothing, Bad, Good, Refused}
+use Rattle.receiver.specs.declared.Received.{Received}
+use Rattle.receiver.specs.Receiving.{Reception, Awaiting, Skipping, Partial, Outcome, Silent, Dropped, Complete, Step, onOctet, onGap, onSessionEnd}
+
+-- 01, Numbers handed back; 0 where there is none.
+abbrev pub eventNumber : Event → ℕ
+eventNumber Nothing = 0
+eventNumber (Bad f) = faultNumber f
+eventNumber (Good c) = 0
+eventNumber Refused = 12
+
+-- the event, which has this number
+abbrev pub numbered : (e : Event) (n : ℕ) → eventNumber e ≡ n → Event
+numbered e n p = e
+
+-- 01, The card: "Fresh, as setup leaves a card: receiver empty".
+abbrev pub fresh : Receiver
+fresh = record { skipping = false; count = record { 0 = 0 }; octets = replicate 127 0 }
+
+-- the first octet held
+abbrev pub statedN : Receiver → ℕ
+statedN r = getD (r .octets) 0 0
+
+-- fewer octets than N states, and an N that answer 1 would not refuse
+abbrev pub fewer : ℕ → Stated → Bool
+fewer n Outside = false
+fewer n (Whole w) = ltb n (w .0)
+
+-- 01, The card: refused with 12 is "a partly received frame whose N answer 1 would refuse, or with as many octets as its N states or more".
+unfoldable pub sound : Receiver → Bool
+sound r = r .skipping || (eqb (r .count .0) 0 || fewer (r .count .0) (statedBy (statedN r)))
+
+-- The same rule in numbers: n octets of a frame whose N is k have come, and neither reason of 12 applies.
+pub record Unfinished (n k : ℕ) : Type 0 where
+  pub least : 11 ≤ k
+  pub most : k ≤ 128
+  pub short : n < k
+
+-- A frame is partly received where octets are held and none is skipped. Nothing else is a reason for 12.
+pub record Sound (r : Receiver) : Type 0 where
+  pub partly : r .skipping ≡ false → 0 < r .count .0 → Unfinished (r .count .0) (statedN r)
+
+-- The reception that a receiver holds.
+unfoldable pub receptionOf : Receiver → Reception
+receptionOf r =
+    cond (r .skipping) Skipping (cond (eqb (r .count .0) 0) Awaiting (Partial (take (r .count .0) (r .octets))))
+
+-- The octets held, with one more.
+abbrev pub heldWith : Receiver → ℕ → List ℕ
+heldWith r o = take (r .count .0) (r .octets) ++ (o ∷ [])
+
+-- The receiver with another reception. The octets at and past the count are free, and stay as they were; so does the count of a receiver that skips.
+unfoldable pub holding : Reception → Receiver → Receiver
+holding Awaiting r = record { skipping = false; count = record { 0 = 0 }; octets = r .octets }
+holding Skipping r = record { skipping = true; count = r .count; octets = r .octets }
+holding (Partial s) r = record { skipping = false; count = record { 0 = length s }; octets = fronted s (r .octets) }
+
+unfoldable pub eventOf : Outcome → Event
+eventOf Silent = Nothing
+eventOf (Dropped f) = Bad f
+eventOf (Complete c s) = Good c
+
+abbrev pub noFrame : List ℕ
+noFrame = replicate 128 0
+
+-- The octets of a good frame with zeros after them, and zeros alone where there is none.
+unfoldable pub frameOf : Outcome → List ℕ
+frameOf Silent = noFrame
+frameOf (Dropped f) = noFrame
+frameOf (Complete c s) = fronted s noFrame
+
+abbrev pub given : Receiver → Step → Received
+given r s = record { receiver = holding (s .next) r; event = eventOf (s .outcome); frame = frameOf (s .outcome) }
+
+abbrev pub refused : Receiver → Received
+refused r = record { receiver = r; event = numbered Refused 12 refl; frame = noFrame }
+
+-- What an event gives and leaves: 12 first, with the receiver handed back as it was; else as 01, Receiving, says.
+abbrev pub answered : (Reception → Step) → Receiver → Received
+answered f r = cond (sound r) (given r (f (receptionOf r))) (refused r)
+
+unfoldable pub afterOctet : Receiver → ℕ → Received
+afterOctet r o = answered (onOctet o) r
+
+unfoldable pub afterGap : Receiver → Received
+afterGap r = answered onGap r
+
+unfoldable pub afterSessionEnd : Receiver → Received
+afterSessionEnd r = answered onSessionEnd r
+
+-- The answers to octets given one after the other, each to the receiver that the last call gave back, and the receiver that is left.
+unfoldable pub afterOctets : Receiver → List ℕ → List Received
+afterOctets r [] = []
+afterOctets r (o ∷ s) = afterOctet r o ∷ afterOctets (afterOctet r o .receiver) s
+
+unfoldable pub leftBy : Receiver → List ℕ → Receiver
+leftBy r [] = r
+leftBy r (o ∷ s) = leftBy (afterOctet r o .receiver) s

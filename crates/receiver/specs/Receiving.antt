@@ -1,0 +1,88 @@
+-- Octets, gaps and session ends into frames, on lists: 01, Receiving. Nothing here speaks of how a receiver is stored.
+use Prim.Native.Nat.{ℕ, _≤_}
+use mathlib.Core.Path.{_≡_, refl}
+use mathlib.Core.List.{List, [], _∷_, _++_}
+use mathlib.Core.Bool.{cond}
+use lib.ListN.{length, getD}
+use lib.Dec.{ltb}
+use Rattle.frame.specs.declared.codes.Command.{Command}
+use Rattle.frame.specs.declared.checks.Stated.{Stated}
+use Rattle.frame.specs.declared.checks.Stated.the-variants.{Whole, Outside}
+use Rattle.frame.specs.declared.checks.Fault.{Fault}
+use Rattle.frame.specs.declared.checks.Fault.the-variants.{OutOfRange, Cut}
+use Rattle.frame.specs.declared.checks.Verdict.{Verdict}
+use Rattle.frame.specs.declared.checks.Verdict.the-variants.{Good, Refused}
+use Rattle.frame.specs.Checks.{faultNumber, statedBy, judged}
+
+-- What has come of the present frame: nothing, so that the next octet is an N; a bad N, so that octets are skipped; or these octets, N first.
+pub data Reception : Type 0 where
+  Awaiting : Reception
+  Skipping : Reception
+  Partial : List ℕ → Reception
+
+-- What an event gives: nothing; a frame that is dropped with 1 to 5; or a good frame with its octets.
+pub data Outcome : Type 0 where
+  Silent : Outcome
+  Dropped : Fault → Outcome
+  Complete : Command → List ℕ → Outcome
+
+-- a frame dropped with the fault of this number
+abbrev pub dropped : (f : Fault) (n : ℕ) → faultNumber f ≡ n → Outcome
+dropped f n e = Dropped f
+
+pub record Step : Type 0 where
+  pub next : Reception
+  pub outcome : Outcome
+
+abbrev pub to : Reception → Outcome → Step
+to h o = record { next = h; outcome = o }
+
+-- "The first octet is N. If the whole length it states is under 11 or over 128, answer 1: all octets are skipped until a gap event"
+unfoldable pub begun : Stated → ℕ → Step
+begun Outside n = to Skipping (dropped OutOfRange 1 refl)
+begun (Whole w) n = to (Partial (n ∷ [])) Silent
+
+unfoldable pub judgedOutcome : Verdict → List ℕ → Outcome
+judgedOutcome (Good c) s = Complete c s
+judgedOutcome (Refused f) s = Dropped f
+
+-- "When the whole length has come, checks run in this order"
+abbrev pub verdictOn : List ℕ → Outcome
+verdictOn s = judgedOutcome (judged s) s
+
+-- "After any complete frame, good or bad, the next octet is an N."
+unfoldable pub grown : List ℕ → Step
+grown s = cond (ltb (length s) (getD s 0 0)) (to (Partial s) Silent) (to Awaiting (verdictOn s))
+
+unfoldable pub onOctet : ℕ → Reception → Step
+onOctet o Awaiting = begun (statedBy o) o
+onOctet o Skipping = to Skipping Silent
+onOctet o (Partial s) = grown (s ++ (o ∷ []))
+
+-- "until a gap event, which gives no number of its own"; "A gap inside a frame answers 3." "A gap between frames does nothing."
+unfoldable pub onGap : Reception → Step
+onGap Awaiting = to Awaiting Silent
+onGap Skipping = to Awaiting Silent
+onGap (Partial s) = to Awaiting (dropped Cut 3 refl)
+
+-- 01, The card: a session end "empties the receiver, which then awaits an N".
+unfoldable pub onSessionEnd : Reception → Step
+onSessionEnd h = to Awaiting Silent
+
+-- What octets that come one after the other give, one outcome for each, and what has then come of the present frame.
+pub record Course : Type 0 where
+  pub outcomes : List Outcome
+  pub last : Reception
+
+abbrev pub after : Outcome → Course → Course
+after o c = record { outcomes = o ∷ c .outcomes; last = c .last }
+
+unfoldable pub onOctets : List ℕ → Reception → Course
+onOctets [] h = record { outcomes = []; last = h }
+onOctets (o ∷ s) h = after (onOctet o h .outcome) (onOctets s (onOctet o h .next))
+
+-- The octets of a frame whose whole length has come: as many as N states, and an N that answer 1 does not refuse.
+pub record WholeFrame (f : List ℕ) : Type 0 where
+  pub least : 11 ≤ length f
+  pub most : length f ≤ 128
+  pub stated : getD f 0 0 ≡ length f
