@@ -36,12 +36,12 @@ impl Lent {
     }
 }
 
-/// The archive libleaves.a: CRC, DES, labels.
+/// The archive libleaf_exports.a: CRC, DES, labels.
 #[cfg(part_leaves)]
 pub mod leaves {
     use super::Lent;
 
-    #[link(name = "leaves", kind = "static")]
+    #[link(name = "leaf_exports", kind = "static")]
     extern "C" {
         fn propolisk_crc_key(octets: *const u8, count: usize) -> u16;
         /// C's bool, taken as an octet, so that a value other than 0 and 1 is seen.

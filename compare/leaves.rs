@@ -39,11 +39,12 @@ pub fn crc(rng: &mut Rng, random_cases: usize) -> Result<usize, Disagreement> {
     Ok(structured.len() + random_cases)
 }
 
-/// All octets alone, every length to 300, and a good frame with each of its bits turned.
+/// All octets alone, every length to 300, the worked frames, and a good frame with each of its bits turned.
 fn crc_structured(rng: &mut Rng) -> Vec<Vec<u8>> {
     let alone = (0..=255).map(|octet| vec![octet]);
     let mut cases: Vec<Vec<u8>> = alone.chain((0..=300).map(|count| vec![0xFF; count])).collect();
     cases.extend((0..=300).map(|count| rng.octets(count)));
+    cases.extend(vectors::worked_frames().iter().map(|(_, octets)| hex::octets(octets)));
     let ads = rng.field();
     let good = random_frames::frame(rng, ads).octets().expect("DATA within its limit");
     for bit in 0..8 * good.len() {
@@ -119,7 +120,7 @@ fn one_bit(bit: usize) -> Block {
     (1u64 << bit).to_be_bytes()
 }
 
-/// Every key of one bit with every block of one bit; and des.txt, each row from both its ends.
+/// Every key of one bit with every block of one bit; and the stored vectors, each row from both its ends.
 fn des_structured() -> Vec<(Block, Block)> {
     let mut cases = vec![];
     for key_bit in 0..64 {

@@ -1,4 +1,4 @@
-//! What our programs print for an input, written from docs/ (framelist.md, des_vectors.md) and 01 (swaplist).
+//! What our programs print for an input, written from docs/PROGRAMS.md and 01 (swaplist).
 
 use crate::des;
 use crate::frame::{Body, Frame};

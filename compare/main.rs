@@ -89,7 +89,7 @@ fn main() -> ExitCode {
         }
     }
     let Some(options) = options() else {
-        eprintln!("usage: compare PART.. [--cases N] [--seed S], with PART one of vectors, leaves, frames, framelist");
+        eprintln!("usage: compare PART.. [--cases N] [--seed S], with PART one of vectors, leaves, frames, des_vectors, framelist");
         return ExitCode::from(2);
     };
     println!("seed {}", options.seed);
@@ -101,6 +101,9 @@ fn main() -> ExitCode {
             "leaves" => compare_leaves(&mut rng, options.cases.unwrap_or(100_000)),
             #[cfg(part_frames)]
             "frames" => compare_frames(&mut rng, options.cases.unwrap_or(100_000)),
+            "des_vectors" => {
+                tell("des_vectors, lines", programs::des_vectors(&mut rng, options.cases.unwrap_or(20_000)))
+            }
             "framelist" => {
                 tell("framelist, frames", programs::framelist(&mut rng, options.cases.unwrap_or(100_000)))
             }
@@ -124,6 +127,7 @@ fn tell_with(part: &str, effect: &str, cases: Result<(usize, usize), Disagreemen
 
 /// The program against published data, 01's rows, and its own card, book and tool against one another.
 fn self_tests(rng: &mut Rng, cases: usize) -> bool {
+    println!("the independent program alone, against published data and itself:");
     tell("crc", vectors::crc(rng))
         && tell("des", vectors::des())
         && tell("utf8 beside Rust's library", vectors::utf8(rng))

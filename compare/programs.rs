@@ -1,6 +1,7 @@
 //! Our programs, run on random and damaged input, beside what they should print.
 
-use crate::frame;
+use crate::des;
+use crate::frame::{self, Block};
 use crate::hex;
 use crate::listing;
 use crate::random_frames;
@@ -23,7 +24,9 @@ fn printed(program: &str, input: &[u8]) -> std::io::Result<Vec<u8>> {
 }
 
 fn case(program: &str, input: &[u8]) -> Case {
-    let gave = printed(program, input).map(|text| String::from_utf8_lossy(&text).into_owned());
+    // Each octet is shown as one character, as in the listing.
+    let gave =
+        printed(program, input).map(|text| text.iter().map(|octet| *octet as char).collect::<String>());
     let expected = listing::of(program, input).expect("a program with a listing");
     same(gave.map_err(|error| error.to_string()), Ok(expected), || hex::text(input))
 }
@@ -66,6 +69,46 @@ pub fn framelist(rng: &mut Rng, cases: usize) -> Result<usize, Disagreement> {
         let good = frame::enclose(rng.field(), rng.octet(), 0x0C, &rng.octets(count.clamp(1, 117)));
         case("framelist", &[good, octets].concat())?;
         tried += 2;
+    }
+    Ok(tried)
+}
+
+/// A line of vectors: right, with a wrong digit, cut, with a stray octet, in lower case, a comment, or empty.
+fn vector_line(rng: &mut Rng) -> Vec<u8> {
+    let (key, plain): (Block, Block) = (rng.field(), rng.field());
+    let cipher = des::encipher(key, plain);
+    let set = rng.pick(&["first", "second", "x"]);
+    let mut line =
+        format!("{set} {} {} {}", hex::text(&key), hex::text(&plain), hex::text(&cipher)).into_bytes();
+    let place = rng.below(line.len());
+    match rng.below(10) {
+        0 => line[place] = rng.pick(b"0123456789ABCDEF"),
+        1 => line[place] = rng.octet(),
+        2 => line.truncate(place),
+        3 => line.push(b' '),
+        4 => line.make_ascii_lowercase(),
+        5 => line.insert(0, b'#'),
+        6 if rng.once_in(3) => line.clear(),
+        _ => {}
+    }
+    line
+}
+
+/// Reports on files of vectors, with or without a last line feed, and on inputs about the longest that is taken.
+pub fn des_vectors(rng: &mut Rng, cases: usize) -> Result<usize, Disagreement> {
+    let mut tried = 0;
+    while tried < cases {
+        let lines: Vec<Vec<u8>> = (0..1 + rng.below(900)).map(|_| vector_line(rng)).collect();
+        let mut input = lines.join(&b'\n');
+        if rng.once_in(2) {
+            input.push(b'\n');
+        }
+        case("des_vectors", &input)?;
+        tried += lines.len();
+    }
+    for count in [0, 65_534, 65_535, 65_536, 65_537, 70_000] {
+        case("des_vectors", &vec![b'#'; count])?;
+        tried += 1;
     }
     Ok(tried)
 }

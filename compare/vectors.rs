@@ -12,9 +12,9 @@ use crate::rng::Rng;
 use crate::utf8::{self, Characters, Octets};
 
 /// Keys and plaintexts of NIST SP 800-17's known-answer sets, with their ciphertexts.
-const DES_VECTORS: &str = include_str!("des.txt");
+const DES_VECTORS: &str = include_str!("../crates/des_vectors/stdin");
 
-/// The rows of des.txt: key, plaintext, ciphertext.
+/// The stored vectors of our program `des_vectors`: key, plaintext, ciphertext.
 pub fn des_rows() -> Vec<[[u8; 8]; 3]> {
     let rows = DES_VECTORS.lines().filter(|line| !line.starts_with('#'));
     rows.map(|row| {
@@ -87,7 +87,7 @@ pub fn utf8(rng: &mut Rng) -> Result<usize, Disagreement> {
 }
 
 /// One worked frame of each command; spaces and the bar are only for the eye.
-fn worked_frames() -> Vec<(Body, &'static str)> {
+pub fn worked_frames() -> Vec<(Body, &'static str)> {
     let (na1, na2) = (hex::field("0123456789ABCDEF"), hex::field("FEDCBA9876543210"));
     let (na1k, na2k) = (hex::field("85E813540F0AB405"), hex::field("4AB65B3D4B061518"));
     let (tab, data) = (0x0A, "Zoé".as_bytes().to_vec());

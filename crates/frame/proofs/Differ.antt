@@ -1,5 +1,4 @@
 -- Two good frames that differ only in zero fields and CRC read the same.
--- offsets outside the zero fields: the head, each field that carries a value, and DATA
 use Prim.Native.Nat.{ℕ, _+_, _-_, _≤_, _<_}
 use mathlib.Core.Path.{_≡_, sym, _∙_}
 use mathlib.Core.List.{List}
@@ -19,6 +18,7 @@ use Rattle.frame.proofs.Widths.{has-bounds}
 use Rattle.frame.proofs.GoodFrame.{inspected-good}
 use Rattle.frame.proofs.OneField.{value-agrees, octet-agrees, zero-not-before, zero-not-after, zero-not-carried}
 
+-- offsets outside the zero fields: the head, each field that carries a value, and DATA
 module _ (l : Layout) (i : ℕ) where
   none : inZero (l .za1) 8 9 i ≡ false → inZero (l .za2) 8 (placesOf l .za2) i ≡ false → inZero (l .tab) 1 (placesOf l .tab) i ≡ false
       → inZero (l .station) 6 (placesOf l .station) i ≡ false → inZeroField l i ≡ false

@@ -1,5 +1,4 @@
 -- Worked frames of station 112233445566 and primary 01, and the whole lengths of all commands: the definitions compute.
--- the fields of these frames; ZA2 is zero in all of them
 use Prim.Native.Nat.{ℕ}
 use mathlib.Core.Path.{_≡_, refl}
 use mathlib.Core.List.{List, [], _∷_, map}
@@ -20,6 +19,7 @@ use Rattle.frame.specs.Content.{onWire, valueAt, octetAt, fieldsOf}
 use Rattle.frame.specs.Checks.{statedBy, judged, judgedAs, inspected, inspectedAs, readOf, fieldsIn}
 use Rattle.frame.specs.Building.{headOf, fixedOf, bodyOf, octetsOf}
 
+-- the fields of these frames; ZA2 is zero in all of them
 abbrev withFields : List ℕ → ℕ → List ℕ → Fields
 withFields za1 tab station =
     record { ads = 0x11 ∷ 0x22 ∷ 0x33 ∷ 0x44 ∷ 0x55 ∷ 0x66 ∷ []; adp = 0x01; za1 = za1; za2 = replicate 8 0; tab = tab; station = station }

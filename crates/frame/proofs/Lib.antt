@@ -11,4 +11,5 @@ pub mod Rebuilt
 pub mod Differ
 pub mod RoundTrip
 pub mod CarriedFields
+pub mod FrameOctets
 mod Examples

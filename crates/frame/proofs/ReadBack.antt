@@ -1,5 +1,4 @@
 -- A built frame reads back as the fields it was built from, for every command, address, ADP and DATA.
--- what stands in the head
 use Prim.Native.Nat.{ℕ, _+_, _-_, suc}
 use mathlib.Core.Path.{_≡_, refl, sym, ap, _∙_}
 use mathlib.Core.List.{List, [], _∷_, _++_, reverse, append-assoc}
@@ -28,6 +27,7 @@ use Rattle.frame.proofs.Steps.{inspected-from}
 use Rattle.frame.proofs.OneField.{value-on-wire, octet-on-wire}
 use Rattle.frame.proofs.Writing.{length-on-wire, length-head, length-octets}
 
+-- what stands in the head
 module _ (n : ℕ) (ads : List ℕ) (adp code : ℕ) (rest : List ℕ) (six : length ads ≡ 6) where
   turned-six : length (reverse ads) ≡ 6
   turned-six = length-reverse ads ∙ six

@@ -1,5 +1,4 @@
 -- A good frame whose zero fields hold zero, read and built again, gives the same octets.
--- an offset in a zero field of the layout
 use Prim.Native.Nat.{ℕ, _+_, _-_, _≤_, _<_}
 use mathlib.Core.Path.{_≡_}
 use mathlib.Core.List.{List}
@@ -21,6 +20,7 @@ use Rattle.frame.proofs.Widths.{has-bounds}
 use Rattle.frame.proofs.GoodFrame.{GoodFrame, inspected-good}
 use Rattle.frame.proofs.OneField.{wire-of-value, wire-of-octet}
 
+-- an offset in a zero field of the layout
 module _ (l : Layout) (i : ℕ) where
   in-za1 : inZero (l .za1) 8 9 i ≡ true → inZeroField l i ≡ true
   unfolding inZeroField

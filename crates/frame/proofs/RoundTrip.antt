@@ -1,5 +1,4 @@
 -- Building and reading undo each other, at what the builder leaves in a lent buffer.
--- the three outcomes
 use Prim.Native.Nat.{ℕ, _-_, _≤_, _<_}
 use mathlib.Core.Path.{_≡_, refl}
 use mathlib.Core.List.{List}
@@ -25,6 +24,7 @@ use Rattle.frame.proofs.GoodFrame.{GoodFrame, inspected-good}
 use Rattle.frame.proofs.ReadBack.{reads-back, reads-data}
 use Rattle.frame.proofs.Rebuilt.{rebuilt}
 
+-- the three outcomes
 module _ (b : List ℕ) (c : Command) (f : Fields) (d : List ℕ) where
   pub built-short : length b < 128 → built b c f d ≡ refusedWith Buffer 17 refl b
   unfolding built

@@ -1,5 +1,4 @@
 -- The steps of the builder on a buffer: each writes where the last one ended.
--- the address turned into the middle of the head
 use Prim.Native.Nat.{ℕ, zero, suc, _+_, _-_, _≤_}
 use mathlib.Core.Path.{_≡_, refl, ap, _∙_}
 use mathlib.Core.List.{List, [], _∷_, _++_, reverse, append-assoc}
@@ -21,6 +20,7 @@ use Rattle.frame.specs.Content.{Shaped, turned, onWire}
 use Rattle.frame.specs.Building.{headOf, fixedOf, bodyOf, octetsOf, closed}
 use Rattle.frame.proofs.Widths.{width-most}
 
+-- the address turned into the middle of the head
 pub head-made : (n : ℕ) (ads : List ℕ) (adp code : ℕ) → length ads ≡ 6 → spliced (n ∷ 0 ∷ 0 ∷ 0 ∷ 0 ∷ 0 ∷ 0 ∷ adp ∷ code ∷ []) 1 (turned ads) ≡ headOf n ads adp code
 unfolding headOf
 head-made n ads adp code e =

@@ -1,5 +1,4 @@
 -- The octets of a frame, and what building one gives and leaves in the lent buffer.
--- 01, Numbers handed back
 use Prim.Native.Nat.{ℕ}
 use mathlib.Core.Path.{_≡_, refl}
 use mathlib.Core.List.{List, [], _∷_, _++_}
@@ -19,6 +18,7 @@ use Rattle.frame.specs.Codes.{codeOf}
 use Rattle.frame.specs.Layout.{layoutOf, wholeLength, within}
 use Rattle.frame.specs.Content.{turned, onWire}
 
+-- 01, Numbers handed back
 abbrev pub refusalNumber : Refusal → ℕ
 refusalNumber Buffer = 17
 refusalNumber Data = 7
@@ -53,6 +53,7 @@ pub record Outcome : Type 0 where
 abbrev pub refusedWith : (r : Refusal) (n : ℕ) → refusalNumber r ≡ n → List ℕ → Outcome
 refusedWith r n e b = record { answer = Refused r; buffer = b }
 
+-- a frame over the front of the buffer; the octets past it stay
 abbrev pub over : List ℕ → List ℕ → Outcome
 over s b = record { answer = Frame (record { 0 = length s }); buffer = fronted s b }
 

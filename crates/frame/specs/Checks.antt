@@ -1,5 +1,4 @@
 -- The checks of a whole frame, in the order of 01, Receiving.
--- 01, Numbers handed back
 use Prim.Native.Nat.{ℕ}
 use mathlib.Core.Path.{_≡_, refl}
 use mathlib.Core.List.{List, [], _∷_}
@@ -22,6 +21,7 @@ use Rattle.frame.specs.Codes.{commandOf}
 use Rattle.frame.specs.Layout.{layoutOf, canHave}
 use Rattle.frame.specs.Content.{fieldsOf}
 
+-- 01, Numbers handed back
 abbrev pub faultNumber : Fault → ℕ
 faultNumber OutOfRange = 1
 faultNumber Crc = 2
@@ -33,7 +33,7 @@ faultNumber Length = 5
 abbrev pub refused : (f : Fault) (n : ℕ) → faultNumber f ≡ n → Verdict
 refused f n e = Refused f
 
--- "If the whole length it states is under 11 or over 128, answer 1."
+-- 01, Receiving: "If the whole length it states is under 11 or over 128, answer 1."
 unfoldable pub statedBy : ℕ → Stated
 statedBy n = cond (between 11 128 n) (Whole (record { 0 = n })) Outside
 
@@ -56,6 +56,7 @@ unfoldable pub inspected : List ℕ → Verdict
 inspected [] = refused Cut 3 refl
 inspected (n ∷ s) = inspectedAs (statedBy n) (n ∷ s)
 
+-- what is told of a frame that is refused
 abbrev pub noFields : Fields
 noFields =
     record { ads = replicate 6 0; adp = 0; za1 = replicate 8 0; za2 = replicate 8 0; tab = 0; station = replicate 6 0 }
@@ -64,5 +65,6 @@ unfoldable pub fieldsIn : Verdict → List ℕ → Fields
 fieldsIn (Good c) s = fieldsOf c s
 fieldsIn (Refused f) s = noFields
 
+-- a whole frame in a slice with its fields
 unfoldable pub readOf : List ℕ → Reading
 readOf s = record { verdict = inspected s; fields = fieldsIn (inspected s) s }

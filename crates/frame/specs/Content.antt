@@ -1,5 +1,4 @@
 -- One field, on the wire and in memory.
--- what the type of a value of `Fields` says: how long its arrays are, and that their elements are octets
 use Prim.Native.Nat.{ℕ, _+_, _-_, _<_}
 use mathlib.Core.Path.{_≡_}
 use mathlib.Core.Bool.{Bool, false, _&&_, _||_}
@@ -15,6 +14,7 @@ use Rattle.frame.specs.declared.layout.Layout.{Layout}
 use Rattle.frame.specs.declared.content.Fields.{Fields}
 use Rattle.frame.specs.Layout.{layoutOf, placesOf}
 
+-- what the type of a value of `Fields` says: how long its arrays are, and that their elements are octets
 pub record Shaped (f : Fields) : Type 0 where
   pub ads-long : length (f .ads) ≡ 6
   pub za1-long : length (f .za1) ≡ 8

@@ -13,8 +13,8 @@ abbrev pub row : Presence → Presence → Presence → Presence → ℕ → ℕ
 row za1 za2 tab station least most =
     record { za1 = za1; za2 = za2; tab = tab; station = station; least = record { 0 = least }; most = record { 0 = most } }
 
--- ZA1 8, ZA2 8, TAB 1, RSO's second ADS 6, DATA from .. to. A field is Zero where the paper sets it to zero: 001 2.4.2, REC, AUT, EOS.
--- ASO's TABi, 1 to 40 octets, are its DATA.
+-- A row has ZA1 (8 octets), ZA2 (8), TAB (1), RSO's second ADS (6), and the least and the most octets of DATA. A field is Zero where
+-- 001 2.4.2 sets it to zero: REC's ZA2, AUT's ZA1, both of EOS. ASO's TABi, 1 to 40 octets, are its DATA.
 unfoldable pub layoutOf : Command → Layout
 layoutOf Enq = row Absent Absent Carried Absent 0 0
 layoutOf Dat = row Absent Absent Carried Absent 0 116

@@ -1,6 +1,6 @@
 // The checks of a whole frame, in the order of 01, Receiving.
 ghost use mathlib.Core.Path.{_≡_};
-ghost use mathlib.Core.Bool.{true, false, cond};
+ghost use mathlib.Core.Bool.{cond};
 ghost use lib.ListN.{length, getD};
 ghost use lib.Dec.{eqb};
 ghost use Rattle.crc.specs.AnnexE.{divides};

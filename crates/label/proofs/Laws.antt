@@ -85,6 +85,11 @@ module _ (label : List ℕ) (octets : Octets) (count : Characters) where
   unfolding fitOf
   fit-refused number at e = judged-refused label (countsOf (keptCharacters label octets count)) number at e
 
+  -- "Ill-formed text anywhere is 8, with the offset at which the longest well-formed front part ends" (01, Labels)
+  pub fit-ill-formed : wellFormed label ≡ false → fitOf label octets count ≡ refused illFormed (inOctets (wellFormedOctets label))
+  unfolding fitOf
+  fit-ill-formed w = judged-ill-formed label (countsOf (keptCharacters label octets count)) w
+
   -- the kept part of a well-formed label is the longest run of whole characters within both limits
   pub kept-longest : wellFormed label ≡ true → Longest label octets count (keptPart label octets count)
   unfolding keptCharacters

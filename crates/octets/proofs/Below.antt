@@ -1,8 +1,7 @@
 -- Every element of a list below a bound, as an octet is below 256: kept by the operations that put lists together.
-use Prim.Native.Nat.{ℕ, _+_, _<_, zero, suc}
+use Prim.Native.Nat.{ℕ, _<_, zero, suc}
 use mathlib.Core.List.{List, [], _∷_, _++_, reverse, reverse-cons}
-use lib.ListN.{take, drop, getD, replicate}
-use lib.Seq.{getD-drop}
+use lib.ListN.{getD, replicate}
 
 abbrev pub Below : ℕ → List ℕ → Type 0
 Below b s = (i : ℕ) → getD s i 0 < b
@@ -18,14 +17,6 @@ module _ (b : ℕ) (h : 0 < b) where
   pub below-append : (s t : List ℕ) → Below b s → Below b t → Below b (s ++ t)
   below-append [] t k l = l
   below-append (x ∷ s) t k l = below-cons x (s ++ t) (k 0) (below-append s t (λ i. k (suc i)) l)
-
-  pub below-take : (n : ℕ) (s : List ℕ) → Below b s → Below b (take n s)
-  below-take zero s k = below-nil
-  below-take (suc n) [] k = below-nil
-  below-take (suc n) (x ∷ s) k = below-cons x (take n s) (k 0) (below-take n s (λ i. k (suc i)))
-
-  pub below-drop : (n : ℕ) (s : List ℕ) → Below b s → Below b (drop n s)
-  below-drop n s k i = rw getD-drop (k (n + i))
 
   pub below-reverse : (s : List ℕ) → Below b s → Below b (reverse s)
   below-reverse [] k = below-nil

@@ -1,9 +1,9 @@
-// The leaves for C programs: the check key, one DES block, and fitting a label. include/propolisk_leaves.h declares them.
+// For C programs: the check key, one DES block, and fitting a label. include/propolisk_leaf.h declares them.
 ghost use mathlib.Core.Path.{_≡_};
 ghost use Rattle.crc.specs.AnnexE.{checkKey, divides};
 ghost use Rattle.des.specs.Des.{encipher, decipher};
 ghost use Rattle.label.specs.Fitting.{fitOf, inOctets, inCharacters};
-ghost use Rattle.leaves.specs.Report.{report};
+ghost use Rattle.leaf_exports.specs.Report.{report};
 use label::Characters;
 use label::Fitting;
 use label::Octets;

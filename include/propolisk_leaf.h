@@ -1,9 +1,9 @@
-/* The leaves for C programs: the check key of IEC 62056-3-1 Annex E, one DES block of FIPS 46-3, and fitting a label of RFC 3629 text.
+/* For C programs: the check key of IEC 62056-3-1 Annex E, one DES block of FIPS 46-3, and fitting a label of RFC 3629 text.
  *
- * Link libleaves.a (`rt staticlib leaves` writes it to target/staticlib/, for x86-64 Linux). No call keeps anything between calls or
- * writes anything but what its sentence names. Buffers of one call must not overlap. */
-#ifndef PROPOLISK_LEAVES_H
-#define PROPOLISK_LEAVES_H
+ * Link libleaf_exports.a (`rt staticlib leaf_exports` writes it to target/staticlib/, for x86-64 Linux). No call keeps anything between calls or
+ * writes anything but what its sentence names. Buffers of one call must not overlap, and no pointer is null, also where its count is 0. */
+#ifndef PROPOLISK_LEAF_H
+#define PROPOLISK_LEAF_H
 
 #include <stdbool.h>
 #include <stddef.h>
@@ -20,7 +20,7 @@ void propolisk_des_encipher(const uint8_t key[8], uint8_t block[8]);
 void propolisk_des_decipher(const uint8_t key[8], uint8_t block[8]);
 
 /* The longest front part of whole characters of the label within both limits.
- * 0: *octets and *characters are the kept part's own counts; the part is label[0 .. *octets].
+ * 0: *octets and *characters are the kept part's own counts; the part is the first *octets octets of the label.
  * 8: the label is ill-formed; *octets is the offset at which its longest well-formed front part ends, and *characters stays as it was.
  * The label is never changed. */
 uint8_t propolisk_label_fit(const uint8_t *label, size_t count, size_t octet_limit, size_t character_limit, size_t *octets,
