@@ -1,0 +1,45 @@
+-- Which data is acceptable to a record (01, The card: "Data is acceptable to a record if ..").
+use Prim.Native.Nat.{ℕ}
+use mathlib.Core.Bool.{Bool, cond, _||_}
+use mathlib.Core.List.{List}
+use lib.Dec.{ltb}
+use lib.ListN.{length, take}
+use Rattle.label.specs.Fitting as label
+use Rattle.label.specs.declared.Characters.{Characters}
+use Rattle.label.specs.declared.Octets.{Octets}
+use Rattle.records.specs.declared.Kind.the-variants.{Raw, Label}
+use Rattle.records.specs.declared.Kind.{Kind}
+use Rattle.records.specs.declared.Attributes.{Attributes}
+use Rattle.records.specs.declared.Record.{Record}
+use Rattle.records.specs.declared.Refusal.the-variants.{TooLong, IllFormed, TooManyCharacters}
+use Rattle.records.specs.declared.Answer.the-variants.{Accepted, Refused}
+use Rattle.records.specs.declared.Answer.{Answer}
+
+abbrev pub octetsOf : List ℕ → Octets
+octetsOf d = label.inOctets (length d)
+
+-- more octets than the limit allows, or than the 116 that any limit may allow
+abbrev pub overLong : Octets → Octets → Bool
+overLong limit octets = ltb 116 (octets .0) || ltb (limit .0) (octets .0)
+
+-- "well-formed UTF-8 (8) and within the character limit (9), in that order"
+abbrev pub textAnswer : Characters → label.Answer Characters → Answer
+textAnswer limit (label.refused number offset) = Refused IllFormed
+textAnswer limit (label.given characters) = cond (ltb (limit .0) (characters .0)) (Refused TooManyCharacters) Accepted
+
+-- only a label is text
+abbrev pub kindAnswer : Kind → List ℕ → Answer
+kindAnswer Raw d = Accepted
+kindAnswer (Label limit) d = textAnswer limit (label.measured d)
+
+-- "within the octet limit (7) and, for a label, .."
+unfoldable pub acceptable : Attributes → List ℕ → Answer
+acceptable a d = cond (overLong (a .limit) (octetsOf d)) (Refused TooLong) (kindAnswer (a .kind) d)
+
+-- what a record holds
+abbrev pub contents : Record → List ℕ
+contents r = take (r .length .0) (r .storage)
+
+-- the contents as data for the record, where a length over the octet limit is over-long data
+unfoldable pub contentsAnswer : Record → Answer
+contentsAnswer r = cond (overLong (r .attributes .limit) (r .length)) (Refused TooLong) (acceptable (r .attributes) (contents r))

@@ -1,0 +1,5 @@
+pub mod Numbers
+pub mod Judging
+pub mod Finding
+pub mod Writing
+pub mod Setup

@@ -1,0 +1,78 @@
+-- The rules of setup on records, and the records that break none (01, The card).
+use Prim.Native.Nat.{ℕ, _≤_, _<_}
+use mathlib.Core.Bool.{Bool, true, false, not, _&&_, _||_}
+use mathlib.Core.List.{List, [], _∷_}
+use mathlib.Core.Path.{_≡_}
+use lib.Dec.{leb, eqb}
+use lib.ListN.{length, replicate}
+use Rattle.records.specs.declared.Kind.the-variants.{Raw, Label}
+use Rattle.records.specs.declared.Kind.{Kind}
+use Rattle.records.specs.declared.Attributes.{Attributes}
+use Rattle.records.specs.declared.Record.{Record}
+use Rattle.records.specs.declared.Records.{Records}
+use Rattle.records.specs.declared.Answer.the-variants.{Accepted, Refused}
+use Rattle.records.specs.declared.Answer.{Answer}
+use Rattle.records.specs.Judging.{acceptable, contents, contentsAnswer}
+use Rattle.records.specs.Finding.{used, attributesOf, blankAttributes, recordAt}
+
+-- "for labels a character limit": a raw record has none
+abbrev pub characterLimit : Kind → ℕ
+characterLimit Raw = 0
+characterLimit (Label limit) = limit .0
+
+-- "limits in range"
+abbrev pub keepsLimits : Attributes → Bool
+keepsLimits a = leb (a .limit .0) 116 && leb (characterLimit (a .kind)) 116
+
+unfoldable pub allKeepLimits : List Attributes → Bool
+allKeepLimits [] = true
+allKeepLimits (a ∷ l) = keepsLimits a && allKeepLimits l
+
+-- whether a record of the list has this TAB
+unfoldable pub present : ℕ → List Attributes → Bool
+present t [] = false
+present t (a ∷ l) = eqb (a .tab) t || present t l
+
+-- "no TAB twice"
+unfoldable pub tabsApart : List Attributes → Bool
+tabsApart [] = true
+tabsApart (a ∷ l) = not (present (a .tab) l) && tabsApart l
+
+-- "at most 32 records, no TAB twice, known kinds, limits in range (12)"; the type of a kind has no unknown one
+unfoldable pub keepsRules : Records → Bool
+keepsRules s = leb (s .count) 32 && tabsApart (attributesOf s) && allKeepLimits (attributesOf s)
+
+-- the first of two answers, unless it accepts
+unfoldable pub first : Answer → Answer → Answer
+first Accepted next = next
+first (Refused refusal) next = Refused refusal
+
+-- "then each content in turn"
+unfoldable pub contentsAnswers : List Record → Answer
+contentsAnswers [] = Accepted
+contentsAnswers (r ∷ l) = first (contentsAnswer r) (contentsAnswers l)
+
+unfoldable pub accepts : Answer → Bool
+accepts Accepted = true
+accepts (Refused refusal) = false
+
+-- whether the records break no setup rule, contents included
+unfoldable pub sound : Records → Bool
+sound s = keepsRules s && accepts (contentsAnswers (used s))
+
+-- what `keepsRules` tests, record by record
+pub record Rules (s : Records) : Type 0 where
+  pub few : s .count ≤ 32
+  pub apart : (i j : ℕ) → i < length (used s) → j < length (used s) → recordAt s i .attributes .tab ≡ recordAt s j .attributes .tab → i ≡ j
+  pub octetLimits : (i : ℕ) → i < length (used s) → recordAt s i .attributes .limit .0 ≤ 116
+  pub characterLimits : (i : ℕ) → i < length (used s) → characterLimit (recordAt s i .attributes .kind) ≤ 116
+
+-- what `sound` tests, record by record: nothing else makes records unsound
+pub record Sound (s : Records) : Type 0 where
+  pub rules : Rules s
+  pub lengths : (i : ℕ) → i < length (used s) → recordAt s i .length .0 ≤ recordAt s i .attributes .limit .0
+  pub accepted : (i : ℕ) → i < length (used s) → acceptable (recordAt s i .attributes) (contents (recordAt s i)) ≡ Accepted
+
+-- no record is in use, and every octet is 0
+abbrev pub empty : Records
+empty = record { count = 0; each = replicate 32 (record { attributes = blankAttributes; length = record { 0 = 0 }; storage = replicate 116 0 }) }

@@ -1,0 +1,73 @@
+// A card's records: what setup gives each, what each holds, and which reads and writes it allows (01, The card).
+mod finding;
+mod judging;
+mod setup;
+mod writing;
+
+use label::Characters;
+use label::Octets;
+
+// A label has a limit on its characters; a raw record has none.
+pub enum Kind {
+    Raw,
+    Label(Characters),
+}
+
+// What setup gives a record besides its contents, and no call alters: TAB, kind, octet limit, and the marks
+// readable, open to programming, open to transfer.
+pub struct Attributes {
+    pub tab: u8,
+    pub kind: Kind,
+    pub limit: Octets,
+    pub readable: bool,
+    pub programming: bool,
+    pub transfer: bool,
+}
+
+// A record's contents are the first `length` octets of its storage. The octets after them are free.
+pub struct Record {
+    pub attributes: Attributes,
+    pub length: Octets,
+    pub storage: [u8; 116],
+}
+
+// The first `count` records are in use. The others are free.
+pub struct Records {
+    pub count: usize,
+    pub each: [Record; 32],
+}
+
+// Why data, a read or a write is refused: 7, 8, 9, 10 and 11 of 01's table.
+pub enum Refusal {
+    TooLong,
+    IllFormed,
+    TooManyCharacters,
+    NoRecord,
+    NotOpen,
+}
+
+// What data for a record, a write, or the contents given at setup come to.
+pub enum Answer {
+    Accepted,
+    Refused(Refusal),
+}
+
+// The index of the record that a TAB names, or why it may not be used.
+pub enum Found {
+    At(usize),
+    Refused(Refusal),
+}
+
+// Who writes: the meter, to which every record is open, or a programming or transfer frame, to which the record's mark may
+// open it.
+pub enum Access {
+    Meter,
+    Programming,
+    Transfer,
+}
+
+// The records after a write, and what became of it.
+pub struct Written {
+    pub records: Records,
+    pub answer: Answer,
+}

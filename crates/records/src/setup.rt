@@ -1,0 +1,130 @@
+// The rules that setup lays down, and that every later call asks of the records.
+ghost use mathlib.Core.Path.{_≡_};
+ghost use Rattle.records.specs.Finding.{used, attributesOf};
+ghost use Rattle.records.specs.Setup.{keepsLimits, allKeepLimits, tabsApart, keepsRules, contentsAnswers, sound, empty};
+use crate::Answer;
+use crate::Attributes;
+use crate::Kind;
+use crate::Record;
+use crate::Records;
+use crate::finding::in_use;
+use label::Octets;
+
+impl Attributes {
+    fn keeps_limits(self) -> bool
+        ensures { λ r. ⌜ r ≡ keepsLimits self ⌝ }
+    {
+        let limit = self.limit;
+        if 116 < limit.0 {
+            return false;
+        }
+        let kind = self.kind;
+        let Kind::Label(characters) = kind else {
+            return true;
+        };
+        characters.0 <= 116
+    }
+}
+
+impl Records {
+    // From the last record to the first: the TABs of those behind are marked as seen.
+    fn tabs_apart(self) -> bool
+        ensures { λ r. ⌜ r ≡ tabsApart (attributesOf self) ⌝ }
+    {
+        let mut seen = [false; 256];
+        let mut i = in_use(self.count);
+        while 0 < i {
+            i -= 1;
+            let record = self.each[i];
+            let attributes = record.attributes;
+            let tab = attributes.tab as usize;
+            if seen[tab] {
+                return false;
+            }
+            seen[tab] = true;
+        }
+        true
+    }
+
+    fn all_keep_limits(self) -> bool
+        ensures { λ r. ⌜ r ≡ allKeepLimits (attributesOf self) ⌝ }
+    {
+        let n = in_use(self.count);
+        let mut i = 0;
+        while i < n {
+            let record = self.each[i];
+            let attributes = record.attributes;
+            if !attributes.keeps_limits() {
+                return false;
+            }
+            i += 1;
+        }
+        true
+    }
+
+    // Setup's first test of the records (12).
+    pub fn keeps_rules(self) -> bool
+        ensures { λ r. ⌜ r ≡ keepsRules self ⌝ }
+    {
+        if 32 < self.count {
+            return false;
+        }
+        if !self.tabs_apart() {
+            return false;
+        }
+        self.all_keep_limits()
+    }
+
+    // Setup's second test of the records: the first refusal in their order (7, 8, 9).
+    pub fn contents_answers(self) -> Answer
+        ensures { λ r. ⌜ r ≡ contentsAnswers (used self) ⌝ }
+    {
+        let n = in_use(self.count);
+        let mut i = 0;
+        while i < n {
+            let record = self.each[i];
+            let answer = record.contents_answer();
+            let Answer::Accepted = answer else {
+                return answer;
+            };
+            i += 1;
+        }
+        Answer::Accepted
+    }
+
+    // Both tests: what every later call asks of its records (12).
+    pub fn sound(self) -> bool
+        ensures { λ r. ⌜ r ≡ sound self ⌝ }
+    {
+        if !self.keeps_rules() {
+            return false;
+        }
+        let answer = self.contents_answers();
+        match answer {
+            Answer::Accepted => true,
+            Answer::Refused(_) => false,
+        }
+    }
+
+    // No records, for a card that setup refused.
+    pub fn empty() -> Records
+        ensures { λ r. ⌜ r ≡ empty ⌝ }
+    {
+        let attributes = Attributes {
+            tab: 0,
+            kind: Kind::Raw,
+            limit: Octets(0),
+            readable: false,
+            programming: false,
+            transfer: false,
+        };
+        let storage = [0u8; 116];
+        let record = Record {
+            attributes,
+            length: Octets(0),
+            storage,
+        };
+        let each = [record; 32];
+        Records { count: 0, each }
+    }
+}
