@@ -80,41 +80,43 @@ pub fn numbers() -> Result<usize, Disagreement> {
     Ok(4099)
 }
 
-const SAMPLE: &str = "02 112233445566 0A 01 04 5A6FC3A9 112233445566 0B 00 02 00FF";
+pub const SAMPLE: &str = "02 112233445566 0A 01 04 5A6FC3A9 112233445566 0B 00 02 00FF";
 
 const SAMPLE_LISTING: &str = "records 2
 112233445566 0A label octets 4 characters 3
 112233445566 0B raw octets 2
 ";
 
+/// A faulty file of each item, with the offset that comes with 18.
+pub const FAULTY_FILES: [(&str, usize); 17] = [
+    ("", 0),
+    ("80", 0),
+    ("8100", 0),
+    ("8120", 0),
+    ("01", 1),
+    ("02 112233445566 0A 01 04 5A6FC3A9 112233445566", 14),
+    ("02 112233445566 0A 01 04 5A6FC3A9 112233445566 0A 00 02 00FF", 14),
+    ("02 112233445566 0A 01 04 5A6FC3A9 112233445565 0B 00 02 00FF", 14),
+    ("01 112233445566 0A", 8),
+    ("01 112233445566 0A 02 00", 8),
+    ("01 112233445566 0A 01", 9),
+    ("01 112233445566 0A 00 75", 9),
+    ("01 112233445566 0A 00 8000", 9),
+    ("01 112233445566 0A 00 04 5A6FC3", 10),
+    ("01 112233445566 0A 01 04 5A6FC3C3", 10),
+    ("01 112233445566 0A 01 04 5A6FC3A9 00", 14),
+    ("00 00", 1),
+];
+
 /// 01's file, and a fault of every item in it.
 pub fn swap_files() -> Result<usize, Disagreement> {
     same(swap::listing(&hex::octets(SAMPLE)), SAMPLE_LISTING.into(), || SAMPLE.into())?;
-    let faults = [
-        ("", 0),
-        ("80", 0),
-        ("8100", 0),
-        ("8120", 0),
-        ("01", 1),
-        ("02 112233445566 0A 01 04 5A6FC3A9 112233445566", 14),
-        ("02 112233445566 0A 01 04 5A6FC3A9 112233445566 0A 00 02 00FF", 14),
-        ("02 112233445566 0A 01 04 5A6FC3A9 112233445565 0B 00 02 00FF", 14),
-        ("01 112233445566 0A", 8),
-        ("01 112233445566 0A 02 00", 8),
-        ("01 112233445566 0A 01", 9),
-        ("01 112233445566 0A 00 75", 9),
-        ("01 112233445566 0A 00 8000", 9),
-        ("01 112233445566 0A 00 04 5A6FC3", 10),
-        ("01 112233445566 0A 01 04 5A6FC3C3", 10),
-        ("01 112233445566 0A 01 04 5A6FC3A9 00", 14),
-        ("00 00", 1),
-    ];
-    for (file, offset) in faults {
+    for (file, offset) in FAULTY_FILES {
         same(swap::listing(&hex::octets(file)), format!("refused 18 at {offset}\n"), || file.into())?;
     }
     same(swap::listing(&[0; 65_536]), "refused 18 at 1\n".into(), || "65536 zeros".into())?;
     same(swap::listing(&[0; 65_537]), "refused 18 at 65536\n".into(), || "65537 zeros".into())?;
-    Ok(faults.len() + 3)
+    Ok(FAULTY_FILES.len() + 3)
 }
 
 /// The writer: 18 with the reader's offset, even where the buffer is too short as well; the buffer is kept.
@@ -172,7 +174,7 @@ pub fn swap_laws(rng: &mut Rng) -> Result<usize, Disagreement> {
 }
 
 /// Records that rise strictly by ADS then TAB.
-fn random_records(rng: &mut Rng) -> Vec<swap::Record> {
+pub fn random_records(rng: &mut Rng) -> Vec<swap::Record> {
     let mut records = vec![];
     let mut ads = [0; 6];
     for tab in 0..rng.below(6) as u8 {

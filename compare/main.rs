@@ -89,7 +89,7 @@ fn main() -> ExitCode {
         }
     }
     let Some(options) = options() else {
-        eprintln!("usage: compare PART.. [--cases N] [--seed S], with PART one of vectors, leaves, frames, des_vectors, framelist");
+        eprintln!("usage: compare PART.. [--cases N] [--seed S], with PART one of vectors, leaves, frames, des_vectors, framelist, swaplist");
         return ExitCode::from(2);
     };
     println!("seed {}", options.seed);
@@ -103,6 +103,9 @@ fn main() -> ExitCode {
             "frames" => compare_frames(&mut rng, options.cases.unwrap_or(100_000)),
             "des_vectors" => {
                 tell("des_vectors, lines", programs::des_vectors(&mut rng, options.cases.unwrap_or(20_000)))
+            }
+            "swaplist" => {
+                tell("swaplist, files", programs::swaplist(&mut rng, options.cases.unwrap_or(3_000)))
             }
             "framelist" => {
                 tell("framelist, frames", programs::framelist(&mut rng, options.cases.unwrap_or(100_000)))

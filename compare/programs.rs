@@ -1,12 +1,15 @@
 //! Our programs, run on random and damaged input, beside what they should print.
 
+use crate::bench;
 use crate::des;
 use crate::frame::{self, Block};
 use crate::hex;
 use crate::listing;
 use crate::random_frames;
+use crate::record::RAW;
 use crate::report::{same, Case, Disagreement};
 use crate::rng::Rng;
+use crate::swap;
 use std::io::Write;
 use std::process::{Command, Stdio};
 
@@ -111,4 +114,46 @@ pub fn des_vectors(rng: &mut Rng, cases: usize) -> Result<usize, Disagreement> {
         tried += 1;
     }
     Ok(tried)
+}
+
+/// 01's file, a faulty file of each item, 4,096 records, files about the longest that is taken, then random files:
+/// good, with a bit turned, cut, lengthened, or with two records exchanged.
+pub fn swaplist(rng: &mut Rng, cases: usize) -> Result<usize, Disagreement> {
+    let mut files: Vec<Vec<u8>> = bench::FAULTY_FILES.iter().map(|(file, _)| hex::octets(file)).collect();
+    files.push(hex::octets(bench::SAMPLE));
+    for (count, length) in [(4_096, 0), (4_096, 6), (4_097, 0), (520, 116), (521, 116)] {
+        files.push(swap::encode(&rising(count, length)));
+    }
+    files.extend([65_535, 65_536, 65_537, 70_000].map(|count| vec![0; count]));
+    for file in &files {
+        case("swaplist", file)?;
+    }
+    for _ in 0..cases {
+        let file = random_file(rng);
+        case("swaplist", &file)?;
+    }
+    Ok(files.len() + cases)
+}
+
+/// So many raw records of one length.
+fn rising(count: usize, length: usize) -> Vec<swap::Record> {
+    let ads = |i: usize| [0, 0, 0, 0, (i / 256) as u8, (i % 256) as u8];
+    (0..count).map(|i| swap::Record { ads: ads(i), tab: 0, kind: RAW, data: vec![0x80; length] }).collect()
+}
+
+fn random_file(rng: &mut Rng) -> Vec<u8> {
+    let mut records = bench::random_records(rng);
+    if records.len() > 1 && rng.once_in(8) {
+        records.swap(0, 1);
+    }
+    let mut file = swap::encode(&records);
+    let place = rng.below(file.len());
+    match rng.below(6) {
+        0 => file[place] ^= 1 << rng.below(8),
+        1 => file[place] = rng.octet(),
+        2 => file.truncate(place),
+        3 => file.insert(place, rng.octet()),
+        _ => {}
+    }
+    file
 }

@@ -12,6 +12,9 @@ use Rattle.frame.specs.declared.builder.Built.{Built}
 use Rattle.frame.specs.declared.builder.Built.the-variants as built
 use Rattle.frame.specs.Checks.{noFields}
 use Rattle.frame.specs.Building.{built, refusalNumber}
+use Rattle.number.specs.Groups.{encoded}
+use Rattle.swap.specs.declared.file.Records.{Records}
+use Rattle.swap.specs.Reading.{verdictOf}
 
 -- what building a frame comes to: its whole length, or 01's number
 pub data Frame : Type 0 where
@@ -25,12 +28,18 @@ frameOf (built.Refused refusal) = number (refusalNumber refusal)
 pub data Row : Type 0 where
   -- a command with so many octets of DATA in a buffer of 128, and what building it comes to
   builds : Command → ℕ → Frame → Row
+  -- a number, and its octets in the swap file
+  encodes : ℕ → List ℕ → Row
+  -- a swap file, and what reading it answers
+  judges : List ℕ → Answer Records → Row
   -- a label, its octet limit and its character limit, and what fitting answers
   fits : List ℕ → ℕ → ℕ → Answer (Octets × Characters) → Row
 
 -- what a row says
 abbrev pub Holds : Row → Type 0
 Holds (builds command count frame) = frameOf (built (replicate 128 0) command noFields (replicate count 0) .answer) ≡ frame
+Holds (encodes n octets) = encoded n ≡ octets
+Holds (judges file answer) = verdictOf file ≡ answer
 Holds (fits label octets characters answer) = fitOf label (inOctets octets) (inCharacters characters) ≡ answer
 
 -- each row of a list holds
@@ -61,4 +70,6 @@ rows =
     fits (0x41 ∷ 0xC3 ∷ []) 116 116 (illFormedAt 1) ∷
     fits (0xC0 ∷ 0x80 ∷ []) 116 116 (illFormedAt 0) ∷
     fits (0xED ∷ 0xA0 ∷ 0x80 ∷ []) 116 116 (illFormedAt 0) ∷
-    fits (0xF4 ∷ 0x90 ∷ 0x80 ∷ 0x80 ∷ []) 116 116 (illFormedAt 0) ∷ []
+    fits (0xF4 ∷ 0x90 ∷ 0x80 ∷ 0x80 ∷ []) 116 116 (illFormedAt 0) ∷
+    encodes 4096 (0x80 ∷ 0x20 ∷ []) ∷
+    judges (0x81 ∷ 0x00 ∷ []) (refused 18 (inOctets 0)) ∷ []

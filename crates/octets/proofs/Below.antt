@@ -1,7 +1,8 @@
--- Every element of a list below a bound, as an octet is below 256: kept by the operations that put lists together.
-use Prim.Native.Nat.{ℕ, _<_, zero, suc}
+-- Every element of a list below a bound, as an octet is below 256: kept by the operations that put lists together and take them apart.
+use Prim.Native.Nat.{ℕ, _+_, _<_, zero, suc}
 use mathlib.Core.List.{List, [], _∷_, _++_, reverse, reverse-cons}
-use lib.ListN.{getD, replicate}
+use lib.ListN.{getD, take, drop, replicate}
+use lib.Seq.{getD-drop}
 
 abbrev pub Below : ℕ → List ℕ → Type 0
 Below b s = (i : ℕ) → getD s i 0 < b
@@ -27,3 +28,11 @@ module _ (b : ℕ) (h : 0 < b) where
   pub below-replicate : (n x : ℕ) → x < b → Below b (replicate n x)
   below-replicate zero x k = below-nil
   below-replicate (suc n) x k = below-cons x (replicate n x) k (below-replicate n x k)
+
+  pub below-take : (n : ℕ) (s : List ℕ) → Below b s → Below b (take n s)
+  below-take zero s k = below-nil
+  below-take (suc n) [] k = below-nil
+  below-take (suc n) (x ∷ s) k = below-cons x (take n s) (k 0) (below-take n s (λ i. k (suc i)))
+
+  pub below-drop : (n : ℕ) (s : List ℕ) → Below b s → Below b (drop n s)
+  below-drop n s k i = rw getD-drop (k (n + i))

@@ -1,0 +1,4 @@
+pub mod Forms
+pub mod Fronts
+pub mod Laying
+mod Turns

@@ -1,0 +1,100 @@
+// Numbers in groups of seven bits, as the swap file has them (01, Swap file). Any number below 2^32 is taken; each caller tests its own limit.
+ghost use mathlib.Core.Path.{_≡_};
+ghost use lib.ListN.{length};
+ghost use Rattle.number.specs.Groups.{encoded, readAt, writtenAt, octetsAt};
+
+// What stands at an offset: a number in its shortest form with the offset after it, or no such number.
+pub enum Reading {
+    Number { value: u32, next: usize },
+    Faulty,
+}
+
+// What writing a number answers: the offset after it, or that it does not fit.
+pub enum Written {
+    Next(usize),
+    Short,
+}
+
+fn wide(octet: u8) -> u64
+    ensures { λ r. ⌜ r ≡ octet ⌝ }
+{
+    octet as u64
+}
+
+// The number whose octets start at an offset. An offset past the end has none.
+pub fn read(octets: &[u8], at: usize) -> Reading
+    ensures { λ r. ⌜ r ≡ readAt (now (octets .entry)) at ⌝ }
+{
+    let mut value: u64 = 0;
+    let mut scale: u64 = 1;
+    let mut next = at;
+    let mut left: usize = 5;
+    while 0 < left {
+        if octets.len() <= next {
+            return Reading::Faulty;
+        }
+        let octet = wide(octets[next]);
+        if octet < 128 {
+            if octet == 0 {
+                if at < next {
+                    return Reading::Faulty;
+                }
+            }
+            let whole = value + octet * scale;
+            if 4294967296 <= whole {
+                return Reading::Faulty;
+            }
+            return Reading::Number {
+                value: whole as u32,
+                next: next + 1,
+            };
+        }
+        value += octet % 128 * scale;
+        scale *= 128;
+        next += 1;
+        left -= 1;
+    }
+    Reading::Faulty
+}
+
+// How many octets a number takes.
+pub fn width(n: u32) -> usize
+    ensures { λ r. ⌜ r ≡ length (encoded n) ⌝ }
+{
+    if n < 128 {
+        return 1;
+    }
+    if n < 16384 {
+        return 2;
+    }
+    if n < 2097152 {
+        return 3;
+    }
+    if n < 268435456 {
+        return 4;
+    }
+    5
+}
+
+// Writes a number's octets from an offset on; where they do not fit, nothing is written.
+pub fn write(octets: &mut [u8], at: usize, n: u32) -> Written
+    ensures { λ r. ⌜ (r ≡ writtenAt (now (octets .entry)) at n) × (now (octets .exit) ≡ octetsAt (now (octets .entry)) at n) ⌝ }
+{
+    let size = width(n);
+    let room = octets.len();
+    if room < size {
+        return Written::Short;
+    }
+    if room - size < at {
+        return Written::Short;
+    }
+    let mut rest = n;
+    let mut next = at;
+    while 128 <= rest {
+        octets[next] = (rest % 128 + 128) as u8;
+        rest /= 128;
+        next += 1;
+    }
+    octets[next] = rest as u8;
+    Written::Next(next + 1)
+}

@@ -1,0 +1,127 @@
+-- A file is accepted exactly if it is the encoding of a list of records within all rules, and that list is the one that was read.
+use Prim.Native.Nat.{ℕ, zero, suc, _+_, _≤_, _<_}
+use mathlib.Core.Path.{_≡_, refl, sym, ap, _∙_}
+use mathlib.Core.Bool.{Bool, true, false}
+use mathlib.Core.List.{List, [], _∷_, _++_}
+use native.Mathlib.Omega.{arith}
+use lib.ListN.{length, getD, take, drop}
+use lib.Seq.{drop-at}
+use lib.Dec.{ltb, lit<}
+use borrow.Author.Tests.{le-ltb, le-leb, ltb-false}
+use Rattle.octets.proofs.Below.{below-drop}
+use Rattle.label.specs.Fitting.{given}
+use Rattle.number.specs.Groups.{Front, found, none, encoded, frontOf}
+use Rattle.number.proofs.Fronts.{encoded-front}
+use Rattle.number.proofs.Forms.{front-form}
+use Rattle.swap.specs.Record.{Record, Sound, Each, Rising, key, keyOf, countLimit, fileLimit}
+use Rattle.swap.specs.Encoding.{recordOctets, recordsOctets, encode, Within}
+use Rattle.swap.specs.Items.{Judged, bad, good, judged, recordAt, limited}
+use Rattle.swap.specs.declared.file.Records.{Records}
+use Rattle.swap.specs.Reading.{Outcome, faulty, listed, preceded, readRecords, readCounted, readFile, answered, verdictOf, inRecords}
+use Rattle.swap.proofs.Shown.{shown, shown-good, within-limit}
+use Rattle.swap.proofs.Encoded.{record-shown, record-front, from-rest, key-front, key-shown, shown-sound, shown-octets}
+use Rattle.swap.proofs.Tally.{records-good}
+
+not-listed : (o : ℕ) (rs : List Record) → faulty o ≡ listed rs → ⊥
+not-listed o rs e = let z : _≡_ {A = ℕ} 0 1 = cc in omega arith
+
+-- records that were read: so many, sound and rising, and the octets are theirs
+pub record Listed (k least : ℕ) (t : List ℕ) (rs : List Record) : Type 0 where
+  pub octets : t ≡ recordsOctets rs
+  pub count : length rs ≡ k
+  pub sound : Each Sound rs
+  pub rising : Rising least rs
+
+pub listed-records : (k least at : ℕ) (t : List ℕ) (rs : List Record) → ((i : ℕ) → getD t i 0 < 256) → readRecords k least at t ≡ listed rs → Listed k least t rs
+unfolding readRecords recordsOctets preceded
+listed-records zero least at [] rs b e =
+    let p : [] ≡ rs = cc in
+    rw (← p) (record { octets = refl; count = refl; sound = Each.none; rising = Rising.none })
+listed-records zero least at (o ∷ t) rs b e = absurd (not-listed at rs e)
+listed-records (suc k) least at t rs b e = go (judged least t) refl (listed-records k)
+  where
+    go : (j : Judged) → judged least t ≡ j → ((least at : ℕ) (t : List ℕ) (rs : List Record) → ((i : ℕ) → getD t i 0 < 256) → readRecords k least at t ≡ listed rs → Listed k least t rs) → Listed (suc k) least t rs
+    go (bad o) q ih = absurd (not-listed (at + o) rs (rw (q, readRecords) at e))
+    go (good w n) q ih = next (readRecords k (suc (keyOf (take 7 t))) (at + (8 + w + n)) (drop (8 + w + n) t)) refl (sym (records-good k least at t w n q) ∙ e)
+      where
+        next : (out : Outcome) → readRecords k (suc (keyOf (take 7 t))) (at + (8 + w + n)) (drop (8 + w + n) t) ≡ out → preceded (recordAt w n t) out ≡ listed rs → Listed (suc k) least t rs
+        next (faulty o) p r = absurd (not-listed o rs r)
+        next (listed more) p r =
+            let h = shown least t w n q in
+            let s = ih _ _ (drop (8 + w + n) t) more (below-drop 256 (lit< tt) (8 + w + n) t b) p in
+            let same : recordAt w n t ∷ more ≡ rs = cc in
+            rw (← same)
+            (record {
+              octets = shown-octets least t w n h b ∙ ap (λ (u : List ℕ). recordOctets (recordAt w n t) ++ u) (s .octets);
+              count = ap suc (s .count);
+              sound = Each.more (shown-sound least t w n h b) (s .sound);
+              rising = Rising.more {least = least} {r = recordAt w n t} {rs = more} (rw (key-shown least t w n h b) (h .high)) (rw (key-shown least t w n h b) (s .rising));
+            })
+
+-- sound and rising records are read from their octets
+pub records-listed : (least at : ℕ) {rs : List Record} → Each Sound rs → Rising least rs → readRecords (length rs) least at (recordsOctets rs) ≡ listed rs
+unfolding recordsOctets readRecords preceded
+records-listed least at Each.none Rising.none = refl
+records-listed least at (Each.more {r = r} {rs = rs} p s) (Rising.more h q) =
+    let n = length (r .content) in
+    let w = length (encoded n) in
+    let t = recordOctets r ++ recordsOctets rs in
+    records-good (length rs) least at t w n (shown-good least t w n (record-shown r (recordsOctets rs) t p refl least h))
+    ∙ rw (record-front r (recordsOctets rs) t p refl, from-rest r (recordsOctets rs) t p refl, key-front r (recordsOctets rs) t p refl, records-listed (suc (key r)) (at + (8 + w + n)) s q)
+
+-- the records read from an accepted file are within all rules, and written give the same octets
+pub read-encode : (s : List ℕ) (rs : List Record) → ((i : ℕ) → getD s i 0 < 256) → readFile s ≡ listed rs → (s ≡ encode rs) × Within rs
+unfolding readFile encode readCounted
+read-encode s rs b e = go (ltb fileLimit (length s)) refl
+  where
+    counted : (f : Front) → limited countLimit (frontOf s) ≡ f → length s ≤ fileLimit → readCounted f s ≡ listed rs → (s ≡ encode rs) × Within rs
+    counted none q h r = absurd (not-listed 0 rs r)
+    counted (found n w) q h r =
+        let l = within-limit countLimit (frontOf s) n w q in
+        let f = encoded-front s n w b (l .0) in
+        let c = listed-records n 0 w (drop w s) rs (below-drop 256 (lit< tt) w s b) r in
+        let same : s ≡ encode rs = f .octets ∙ rw (c .count, c .octets) in (
+          same,
+          record {
+            sound = c .sound;
+            rising = c .rising;
+            few = omega (arith, c .count, l .1);
+            small = rw (← same) h;
+          },
+        )
+
+    go : (t : Bool) → ltb fileLimit (length s) ≡ t → (s ≡ encode rs) × Within rs
+    go true h = absurd (not-listed fileLimit rs (rw h at e))
+    go false h = counted (limited countLimit (frontOf s)) refl (ltb-false fileLimit (length s) h) (rw h at e)
+
+-- records within all rules, written and read, are the same records
+pub encode-read : (rs : List Record) → Within rs → readFile (encode rs) ≡ listed rs
+unfolding readFile encode readCounted limited
+encode-read rs h =
+    let w : ℕ = length (encoded (length rs)) in
+    let f : frontOf (encoded (length rs) ++ recordsOctets rs) ≡ found (length rs) w = front-form (length rs) (recordsOctets rs) (omega (arith, h .few)) in
+    rw (le-ltb fileLimit (length (encoded (length rs) ++ recordsOctets rs)) (h .small), f, le-leb (length rs) countLimit (h .few), drop-at (encoded (length rs)) (recordsOctets rs) w refl)
+    (records-listed 0 w (h .sound) (h .rising))
+
+-- one file has one list of records
+pub one-list : (rs qs : List Record) → Within rs → Within qs → encode rs ≡ encode qs → rs ≡ qs
+one-list rs qs h k e =
+    let l : listed rs ≡ listed qs = sym (encode-read rs h) ∙ ap readFile e ∙ encode-read qs k in
+    cc
+
+-- a file with this verdict is the encoding of so many records within all rules
+pub accepted-encoding : (s : List ℕ) (n : ℕ) → ((i : ℕ) → getD s i 0 < 256) → verdictOf s ≡ given (inRecords n) → (rs : List Record) × (s ≡ encode rs) × Within rs × (length rs ≡ n)
+unfolding verdictOf
+accepted-encoding s n b e = go (readFile s) refl e
+  where
+    go : (out : Outcome) → readFile s ≡ out → answered out ≡ given (inRecords n) → (rs : List Record) × (s ≡ encode rs) × Within rs × (length rs ≡ n)
+    go (faulty o) q r = let z : _≡_ {A = ℕ} 0 1 = cc in let y : ⊥ = omega arith in absurd y
+    go (listed rs) q r =
+        let c : inRecords (length rs) ≡ inRecords n = cc in
+        let f = read-encode s rs b q in
+        (rs, f .0, f .1, ap (λ (c : Records). c .0) c)
+
+-- and has it
+pub encoding-accepted : (rs : List Record) → Within rs → verdictOf (encode rs) ≡ given (inRecords (length rs))
+unfolding verdictOf
+encoding-accepted rs h = rw (encode-read rs h)

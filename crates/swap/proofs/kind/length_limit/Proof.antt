@@ -1,0 +1,22 @@
+-- `length_limit`: each arm is a case of the definition.
+use Rattle.swap.specs.Record.{lengthLimit}
+use borrow.Author.Needs.{needs}
+use Rattle.swap.proofs.kind.length_limit.Statement.{statement}
+use Rattle.swap.proofs.kind.length_limit.Tie as tie
+
+enum-told : tie.Need-enum-told
+enum-told c = search needs
+
+enum-told-2 : tie.Need-enum-told-2
+enum-told-2 c = search needs
+
+returns : tie.Need-returns
+unfolding lengthLimit
+returns c = rw (c .enum-told .given .1)
+
+returns-2 : tie.Need-returns-2
+unfolding lengthLimit
+returns-2 c = rw (c .enum-told2 .given .1)
+
+pub length-limit-spec : {M : Type 1} → statement M
+length-limit-spec = tie.close (tie.spec enum-told enum-told-2 returns returns-2)

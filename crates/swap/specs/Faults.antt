@@ -1,0 +1,53 @@
+-- The items of a file one after the other: which item is due, and that all before it are good (01, Swap file).
+use Prim.Native.Nat.{ℕ, zero, suc, _+_}
+use mathlib.Core.Path.{_≡_}
+use mathlib.Core.Bool.{cond}
+use mathlib.Core.List.{List, [], _∷_}
+use lib.ListN.{getD, take, drop}
+use Rattle.number.specs.Groups.{Front, found, none, frontOf}
+use Rattle.swap.specs.declared.kind.Kind.{Kind}
+use Rattle.swap.specs.Record.{kindOf, keyOf, countLimit}
+use Rattle.swap.specs.Items.{goodAddress, goodKind, goodContent, lengthAt, limited}
+
+-- the item that is due, with what the items before it told: how many records follow this one, the least key or this record's, its kind, its length
+pub data Due : Type 0 where
+  countDue : Due
+  addressDue : ℕ → ℕ → Due
+  kindDue : ℕ → ℕ → Due
+  lengthDue : ℕ → ℕ → Kind → Due
+  contentDue : ℕ → ℕ → Kind → ℕ → Due
+  restDue : Due
+
+-- what an item is: bad, or good, with how many octets it takes and the item due after it, or the end of the file
+pub data Step : Type 0 where
+  badItem : Step
+  goodItem : ℕ → Due → Step
+  fileEnd : Step
+
+-- so many records more, from a least key on
+unfoldable pub recordsDue : ℕ → ℕ → Due
+recordsDue zero least = restDue
+recordsDue (suc k) least = addressDue k least
+
+unfoldable pub counted : Front → Step
+counted none = badItem
+counted (found n w) = goodItem w (recordsDue n 0)
+
+unfoldable pub measured : ℕ → ℕ → Kind → Front → Step
+measured k key kind none = badItem
+measured k key kind (found n w) = goodItem w (contentDue k key kind n)
+
+-- the item that is due, at the front of s
+unfoldable pub item : Due → List ℕ → Step
+item countDue s = counted (limited countLimit (frontOf s))
+item (addressDue k least) s = cond (goodAddress least s) (goodItem 7 (kindDue k (keyOf (take 7 s)))) badItem
+item (kindDue k key) s = cond (goodKind s) (goodItem 1 (lengthDue k key (kindOf (getD s 0 0)))) badItem
+item (lengthDue k key kind) s = measured k key kind (lengthAt kind s)
+item (contentDue k key kind n) s = cond (goodContent kind n s) (goodItem n (recordsDue k (suc key))) badItem
+item restDue [] = fileEnd
+item restDue (o ∷ s) = badItem
+
+-- in s the item is due at this offset, and each item before it is good
+pub data Reached (s : List ℕ) : Due → ℕ → Type 0 where
+  first : Reached s countDue 0
+  passed : {d next : Due} {at w : ℕ} → Reached s d at → item d (drop at s) ≡ goodItem w next → Reached s next (at + w)

@@ -1,0 +1,6 @@
+pub mod Record
+pub mod Encoding
+pub mod Items
+pub mod Reading
+pub mod Cursor
+pub mod Faults

@@ -1,0 +1,58 @@
+-- Reading a whole file: its records, or the start of its first bad item (01, Swap file).
+use Prim.Native.Nat.{ℕ, zero, suc, _+_}
+use mathlib.Core.Bool.{cond}
+use mathlib.Core.List.{List, [], _∷_}
+use lib.Dec.{ltb}
+use lib.ListN.{length, take, drop}
+use Rattle.label.specs.Fitting.{Answer, given, refused, inOctets}
+use Rattle.number.specs.Groups.{Front, found, none, frontOf}
+use Rattle.swap.specs.declared.file.Records.{Records}
+use Rattle.swap.specs.declared.file.Verdict.{Verdict}
+use Rattle.swap.specs.declared.file.Verdict.the-variants.{Accepted, Fault}
+use Rattle.swap.specs.Record.{Record, keyOf, countLimit, fileLimit}
+use Rattle.swap.specs.Items.{judged, bad, good, recordAt, limited}
+
+pub data Outcome : Type 0 where
+  faulty : ℕ → Outcome
+  listed : List Record → Outcome
+
+unfoldable pub preceded : Record → Outcome → Outcome
+preceded r (faulty o) = faulty o
+preceded r (listed rs) = listed (r ∷ rs)
+
+-- so many records, each above the one before, from an offset on, and nothing after them
+unfoldable pub readRecords : ℕ → ℕ → ℕ → List ℕ → Outcome
+readRecords zero least at [] = listed []
+readRecords zero least at (o ∷ s) = faulty at
+readRecords (suc k) least at s =
+    elim (judged least s) [
+      | bad o ↦ faulty (at + o)
+      | good w n ↦ preceded (recordAt w n s) (readRecords k (suc (keyOf (take 7 s))) (at + (8 + w + n)) (drop (8 + w + n) s))
+    ]
+
+unfoldable pub readCounted : Front → List ℕ → Outcome
+readCounted none s = faulty 0
+readCounted (found n w) s = readRecords n 0 w (drop w s)
+
+-- a file too long is bad at its limit, whatever stands in it
+unfoldable pub readFile : List ℕ → Outcome
+readFile s = cond (ltb fileLimit (length s)) (faulty fileLimit) (readCounted (limited countLimit (frontOf s)) s)
+
+abbrev pub inRecords : ℕ → Records
+inRecords count = record { 0 = count }
+
+-- 01, Numbers handed back: a faulty swap file
+abbrev pub swapFault : ℕ
+swapFault = 18
+
+abbrev pub answerOfVerdict : Verdict → Answer Records
+answerOfVerdict (Accepted count) = given count
+answerOfVerdict (Fault offset) = refused swapFault offset
+
+-- what reading a file answers: its count of records, or 18 and the offset
+abbrev pub answered : Outcome → Answer Records
+answered (faulty o) = refused swapFault (inOctets o)
+answered (listed rs) = given (inRecords (length rs))
+
+unfoldable pub verdictOf : List ℕ → Answer Records
+verdictOf s = answered (readFile s)

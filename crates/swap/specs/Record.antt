@@ -1,0 +1,76 @@
+-- A record of the swap file and the rules that it keeps (01, Swap file).
+use Prim.Native.Nat.{ℕ, suc, _+_, _*_, _≤_, _<_}
+use mathlib.Core.Path.{_≡_}
+use mathlib.Core.Bool.{Bool, true, cond}
+use mathlib.Core.List.{List, [], _∷_, _++_}
+use lib.Dec.{leb, eqb}
+use lib.ListN.{length, getD}
+use Rattle.label.specs.Utf8.{wellFormed}
+use Rattle.swap.specs.declared.kind.Kind.{Kind}
+use Rattle.swap.specs.declared.kind.Kind.the-variants.{Raw, Label}
+
+-- content stands for 01's data
+pub record Record : Type 0 where
+  pub ads : List ℕ
+  pub tab : ℕ
+  pub kind : ℕ
+  pub content : List ℕ
+
+-- the octet that stands for a kind: 0 raw, 1 label
+abbrev pub kindOctet : Kind → ℕ
+kindOctet Raw = 0
+kindOctet Label = 1
+
+unfoldable pub knownKind : ℕ → Bool
+knownKind octet = leb octet 1
+
+-- the kind of a known octet
+unfoldable pub kindOf : ℕ → Kind
+kindOf octet = cond (eqb octet 1) Label Raw
+
+-- the most octets that the data of a kind has
+unfoldable pub lengthLimit : Kind → ℕ
+lengthLimit Raw = 116
+lengthLimit Label = 116
+
+-- the data of a label is well-formed
+unfoldable pub acceptable : Kind → List ℕ → Bool
+acceptable Raw content = true
+acceptable Label content = wellFormed content
+
+abbrev pub countLimit : ℕ
+countLimit = 4096
+
+abbrev pub fileLimit : ℕ
+fileLimit = 65536
+
+-- octets as one number, the first highest, after a number that stands before them
+unfoldable pub numberFrom : ℕ → List ℕ → ℕ
+numberFrom n [] = n
+numberFrom n (o ∷ s) = numberFrom (n * 256 + o) s
+
+-- ADS then TAB, by which records rise
+unfoldable pub keyOf : List ℕ → ℕ
+keyOf s = numberFrom 0 s
+
+unfoldable pub key : Record → ℕ
+key r = keyOf (r .ads ++ r .tab ∷ [])
+
+-- a record within the rules
+pub record Sound (r : Record) : Type 0 where
+  pub address : length (r .ads) ≡ 6
+  pub address-octets : (i : ℕ) → getD (r .ads) i 0 < 256
+  pub tab-octet : r .tab < 256
+  pub known : knownKind (r .kind) ≡ true
+  pub short : length (r .content) ≤ lengthLimit (kindOf (r .kind))
+  pub content-octets : (i : ℕ) → getD (r .content) i 0 < 256
+  pub text : acceptable (kindOf (r .kind)) (r .content) ≡ true
+
+pub data Each (P : Record → Type 0) : List Record → Type 0 where
+  none : Each P []
+  more : {r : Record} {rs : List Record} → P r → Each P rs → Each P (r ∷ rs)
+
+-- records from a least key on, each above the one before
+pub data Rising : ℕ → List Record → Type 0 where
+  none : {least : ℕ} → Rising least []
+  more : {least : ℕ} {r : Record} {rs : List Record} → least ≤ key r → Rising (suc (key r)) rs → Rising least (r ∷ rs)

@@ -1,0 +1,94 @@
+// The records of a file one by one.
+ghost use mathlib.Core.Path.{_≡_};
+ghost use Rattle.swap.specs.Cursor.{startOf, nextAt, adsOf, contentOf};
+use crate::file::Records;
+use crate::item::Entry;
+use crate::item::Item;
+use crate::item::item_at;
+use number::Reading;
+
+// Where the next record stands, and how many are left from there on.
+pub struct Cursor {
+    pub at: usize,
+    pub left: Records,
+}
+
+// What stands at a cursor: a record with the cursor after it, the end, or no record, where the cursor is not one of this file.
+pub enum Next {
+    Record(Entry, Cursor),
+    End,
+    Forged,
+}
+
+// The cursor of the first record; a file with no count has none.
+pub fn start(file: &[u8]) -> Cursor
+    ensures { λ r. ⌜ r ≡ startOf (now (file .entry)) ⌝ }
+{
+    let Reading::Number { value, next } = number::read(file, 0) else {
+        return Cursor {
+            at: 0,
+            left: Records(0),
+        };
+    };
+    Cursor {
+        at: next,
+        left: Records(value as usize),
+    }
+}
+
+impl Cursor {
+    // The record at the cursor. Its items are judged anew, but not its order, so that no cursor leads out of the file.
+    pub fn next(self, file: &[u8]) -> Next
+        ensures { λ r. ⌜ r ≡ nextAt (now (file .entry)) self ⌝ }
+    {
+        let at = self.at;
+        let records = self.left;
+        let left = records.0;
+        if left == 0 {
+            return Next::End;
+        }
+        if file.len() < at {
+            return Next::Forged;
+        }
+        let item = item_at(file, at, 0);
+        match item {
+            Item::Bad(_) => Next::Forged,
+            Item::Good(entry) => {
+                let length = entry.length;
+                let after = Cursor {
+                    at: entry.from + length.0,
+                    left: Records(left - 1),
+                };
+                Next::Record(entry, after)
+            }
+        }
+    }
+}
+
+// The ADS of a record; zeros where the file has none there.
+pub fn ads(file: &[u8], entry: Entry) -> [u8; 6]
+    ensures { λ r. ⌜ r ≡ adsOf (now (file .entry)) entry ⌝ }
+{
+    let at = entry.at;
+    if file.len() < at {
+        return [0; 6];
+    }
+    octets::six(octets::part(&file[at..], 0, 6))
+}
+
+// The data of a record, as a part of the file; none where the file has no such part.
+pub fn content(file: &[u8], entry: Entry) -> &[u8]
+    ensures { λ r. ⌜ now r ≡ contentOf (now (file .entry)) entry ⌝ }
+{
+    let from = entry.from;
+    let length = entry.length;
+    let count = length.0;
+    if file.len() < count {
+        return &file[..0];
+    }
+    if file.len() - count < from {
+        return &file[..0];
+    }
+    let end = from + count;
+    &file[from..end]
+}

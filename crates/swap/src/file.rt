@@ -1,0 +1,62 @@
+// The verdict on a whole file.
+ghost use mathlib.Core.Path.{_≡_};
+ghost use Prim.Native.Nat.{_≤_};
+ghost use lib.ListN.{length, drop};
+ghost use Rattle.swap.specs.Reading.{answerOfVerdict, verdictOf, answered, readRecords};
+use crate::item::Item;
+use crate::item::item_at;
+use crate::item::key;
+use label::Octets;
+use number::Reading;
+
+// A count of records.
+pub struct Records(pub usize);
+
+// What a file is: accepted with so many records, or faulty with the start of its first bad item.
+pub enum Verdict {
+    Accepted(Records),
+    Fault(Octets),
+}
+
+pub fn judge(file: &[u8]) -> Verdict
+    ensures { λ r. ⌜ answerOfVerdict r ≡ verdictOf (now (file .entry)) ⌝ }
+{
+    if 65536 < file.len() {
+        return Verdict::Fault(Octets(65536));
+    }
+    let Reading::Number { value, next } = number::read(file, 0) else {
+        return Verdict::Fault(Octets(0));
+    };
+    if 4096 < value {
+        return Verdict::Fault(Octets(0));
+    }
+    judge_records(file, next, value as usize)
+}
+
+// So many records from an offset on, and nothing after them.
+fn judge_records(file: &[u8], start: usize, count: usize) -> Verdict
+    requires { ⌜ start ≤ length (now file) ⌝ }
+    ensures { λ r. ⌜ answerOfVerdict r ≡ answered (readRecords count 0 start (drop start (now (file .entry)))) ⌝ }
+{
+    let mut at = start;
+    let mut left = count;
+    let mut least: u64 = 0;
+    while 0 < left {
+        let item = item_at(file, at, least);
+        match item {
+            Item::Bad(offset) => {
+                return Verdict::Fault(Octets(offset));
+            }
+            Item::Good(entry) => {
+                least = key(&file[at..]) + 1;
+                let length = entry.length;
+                at = entry.from + length.0;
+                left -= 1;
+            }
+        }
+    }
+    if at < file.len() {
+        return Verdict::Fault(Octets(at));
+    }
+    Verdict::Accepted(Records(count))
+}

@@ -1,0 +1,13 @@
+// The swap file: reading a whole file, and its records one by one (01, Swap file).
+pub mod cursor;
+pub mod file;
+pub mod item;
+pub mod kind;
+
+pub use cursor::Cursor;
+pub use cursor::Next;
+pub use file::Records;
+pub use file::Verdict;
+pub use file::judge;
+pub use item::Entry;
+pub use kind::Kind;
