@@ -1,5 +1,6 @@
 //! What our programs print for an input, written from docs/PROGRAMS.md and 01 (swaplist).
 
+use crate::cardlog;
 use crate::des;
 use crate::frame::{Body, Frame};
 use crate::hex;
@@ -9,6 +10,7 @@ use crate::swap;
 /// The text of a program by its name, if there is such a program.
 pub fn of(program: &str, input: &[u8]) -> Option<String> {
     match program {
+        "cardlog" => Some(cardlog::played(input).text),
         "des_vectors" => Some(des_vectors(input)),
         "framelist" => Some(framelist(input)),
         "swaplist" => Some(swap::listing(input)),

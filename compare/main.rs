@@ -2,15 +2,19 @@
 //! and compared with our libraries.
 //!
 //! `compare PART.. [--cases N] [--seed S]`; the parts are `vectors` (the program against published data
-//! and itself) and, where compiled in, `leaves`.
+//! and itself), our programs by their names and, where compiled in, `leaves` and `frames`. `compare print
+//! PROGRAM` prints what a program should print for standard input, and `compare write PROGRAM` its stored
+//! input, where that is made here.
 
 mod bench;
 mod bench_card;
 mod bench_tool;
 mod book;
 mod card;
+mod cardlog;
 mod crc;
 mod des;
+mod encoding;
 mod frame;
 mod hex;
 mod histories;
@@ -19,9 +23,12 @@ mod number;
 mod programs;
 mod random_frames;
 mod random_history;
+mod random_setup;
 mod random_text;
 mod receiver;
 mod record;
+mod recordings;
+mod replays;
 mod report;
 mod rng;
 mod swap;
@@ -69,27 +76,30 @@ fn print_expected(program: &str) -> ExitCode {
         eprintln!("standard input cannot be read");
         return ExitCode::from(2);
     }
-    match listing::of(program, &input) {
-        Some(text) => {
-            // A set's name may hold any octet, so each character stands for one octet.
-            let octets: Vec<u8> = text.chars().map(|character| character as u8).collect();
-            std::io::stdout().write_all(&octets).map_or(ExitCode::from(2), |()| ExitCode::SUCCESS)
-        }
-        None => {
-            eprintln!("{program}: no such program");
-            ExitCode::from(2)
-        }
-    }
+    // A set's name may hold any octet, so each character stands for one octet.
+    let octets = |text: String| text.chars().map(|character| character as u8).collect();
+    write_out(program, listing::of(program, &input).map(octets))
+}
+
+/// Octets of a program to standard output, if there is such a program.
+fn write_out(program: &str, octets: Option<Vec<u8>>) -> ExitCode {
+    let Some(octets) = octets else {
+        eprintln!("{program}: no such program");
+        return ExitCode::from(2);
+    };
+    std::io::stdout().write_all(&octets).map_or(ExitCode::from(2), |()| ExitCode::SUCCESS)
 }
 
 fn main() -> ExitCode {
     if let [word, program] = &std::env::args().skip(1).collect::<Vec<_>>()[..] {
-        if word == "print" {
-            return print_expected(program);
+        match &word[..] {
+            "print" => return print_expected(program),
+            "write" => return write_out(program, recordings::of(program)),
+            _ => {}
         }
     }
     let Some(options) = options() else {
-        eprintln!("usage: compare PART.. [--cases N] [--seed S], with PART one of vectors, leaves, frames, des_vectors, framelist, swaplist");
+        eprintln!("usage: compare PART.. [--cases N] [--seed S], with PART one of vectors, leaves, frames, des_vectors, framelist, cardlog, swaplist");
         return ExitCode::from(2);
     };
     println!("seed {}", options.seed);
@@ -110,6 +120,7 @@ fn main() -> ExitCode {
             "framelist" => {
                 tell("framelist, frames", programs::framelist(&mut rng, options.cases.unwrap_or(100_000)))
             }
+            "cardlog" => compare_cardlog(&mut rng, options.cases.unwrap_or(100_000)),
             _ => {
                 eprintln!("{part}: no such part in this build");
                 return ExitCode::from(2);
@@ -167,4 +178,9 @@ fn compare_leaves(rng: &mut Rng, cases: usize) -> bool {
 #[cfg(part_frames)]
 fn compare_frames(rng: &mut Rng, cases: usize) -> bool {
     tell("frames built", frames::build(rng, cases)) && tell("frames read", frames::read(rng, cases))
+}
+
+fn compare_cardlog(rng: &mut Rng, cases: usize) -> bool {
+    tell_with("cardlog, setups", "accepted", replays::setups(rng, cases / 100))
+        && tell_with("cardlog, calls", "writes granted", replays::calls(rng, cases))
 }

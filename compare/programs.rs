@@ -26,7 +26,7 @@ fn printed(program: &str, input: &[u8]) -> std::io::Result<Vec<u8>> {
     Ok(output.stdout)
 }
 
-fn case(program: &str, input: &[u8]) -> Case {
+pub fn case(program: &str, input: &[u8]) -> Case {
     // Each octet is shown as one character, as in the listing.
     let gave =
         printed(program, input).map(|text| text.iter().map(|octet| *octet as char).collect::<String>());

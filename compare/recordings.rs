@@ -1,0 +1,68 @@
+//! The stored input of `cardlog`: 01's rows of the bench for REC and AUT, and a refusal of each kind of call.
+
+use crate::bench::{ADDRESS, FOREIGN, KEY, NA1, NA2};
+use crate::book::Event;
+use crate::des;
+use crate::encoding::{self, Given};
+use crate::frame::{Address, Body, Frame};
+use crate::record::{Record, LABEL, RAW};
+use crate::utf8::{Characters, Octets};
+
+const TAB: u8 = 0x0A;
+
+/// The stored input of a program, where it is made here.
+pub fn of(program: &str) -> Option<Vec<u8>> {
+    (program == "cardlog").then(cardlog)
+}
+
+fn given() -> Given {
+    let label = Record {
+        tab: TAB,
+        kind: LABEL,
+        octet_limit: Octets(10),
+        character_limit: Characters(3),
+        readable: 1,
+        open_to_programming: 1,
+        open_to_transfer: 1,
+        data: b"old".to_vec(),
+    };
+    let raw = Record { tab: TAB + 1, kind: RAW, open_to_transfer: 0, data: vec![], ..label.clone() };
+    Given { address: ADDRESS.to_vec(), key: KEY.to_vec(), records: vec![label, raw] }
+}
+
+/// The octets of a frame, each with NA2 and a buffer of 128 octets lent.
+fn sent(ads: Address, body: Body) -> Vec<Event> {
+    let octets = Frame { ads, adp: 1, body }.octets().expect("DATA within its limit");
+    octets.into_iter().map(|octet| Event::Octet { octet, number: NA2.to_vec(), room: 128 }).collect()
+}
+
+fn cardlog() -> Vec<u8> {
+    let rec = || sent(ADDRESS, Body::Rec { na1: NA1, tab: TAB, data: b"new".to_vec() });
+    let aut = || sent(ADDRESS, Body::Aut { na2k: des::encipher(KEY, NA2) });
+    let enq = || sent(ADDRESS, Body::Enq { tab: TAB });
+    let foreign = sent(FOREIGN, Body::Enq { tab: TAB });
+    let trf = sent(ADDRESS, Body::Trf { tab: TAB + 1, data: b"raw".to_vec() });
+    let octet = |number: &[u8], room: usize| Event::Octet { octet: 0x0B, number: number.to_vec(), room };
+    let meter_write = |data: &str| Event::MeterWrite { tab: TAB, data: data.as_bytes().to_vec() };
+    let parts = [
+        // REC, session end, AUT: no reply, and the record is kept.
+        rec(),
+        vec![Event::SessionEnd],
+        aut(),
+        enq(),
+        // REC, a frame for another card, AUT: EOS.
+        rec(),
+        foreign,
+        aut(),
+        enq(),
+        // A cipher that is another number's, a record not open to transfer, a short number, a short buffer, a gap inside a frame.
+        rec(),
+        sent(ADDRESS, Body::Aut { na2k: NA2 }),
+        trf,
+        vec![octet(&NA2[..7], 128), octet(&NA2, 127), octet(&NA2, 128), Event::Gap],
+        vec![meter_write("four"), meter_write("Zoé")],
+    ];
+    let mut octets = encoding::setup(&given(), &mut || 0);
+    octets.extend(parts.concat().iter().flat_map(|event| encoding::call(event, &mut || 0)));
+    octets
+}

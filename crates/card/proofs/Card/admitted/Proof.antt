@@ -1,0 +1,73 @@
+-- `Card::admitted` runs setup's checks in the order of the definition.
+use Prim.Native.Nat.{ℕ}
+use mathlib.Core.Path.{_≡_, refl}
+use mathlib.Core.Bool.{Bool, true, false, not}
+use mathlib.Core.List.{List, [], _∷_}
+use borrow.Author.Needs.{needs}
+use borrow.Author.Tests.{not-true, not-false}
+use types.Run.{OneOf, miss}
+use denote.Enum.Declared.{tagOf}
+use Rattle.records.proofs.Answer.{the-type}
+use Rattle.records.specs.declared.Answer.{Answer as ContentsAnswer}
+use Rattle.records.specs.declared.Answer.the-variants as contents
+use Rattle.card.specs.declared.Card.{Card}
+use Rattle.card.specs.Frames.{writeAnswer}
+use Rattle.card.specs.Setup.{refusedSetup, admittedWith, admitted}
+use Rattle.card.proofs.Card.admitted.Statement.{statement}
+use Rattle.card.proofs.Card.admitted.Tie as tie
+
+broadcast-requires : tie.Need-broadcast-requires
+broadcast-requires c κs = search needs
+
+refused-setup-requires : tie.Need-refused-setup-requires
+refused-setup-requires c κs = search needs
+
+returns : tie.Need-returns
+unfolding admitted
+returns c = rw (← c .before .before .broadcast .ensures, c .before .if1 .taken) (c .refused-setup .ensures)
+
+keeps-rules-requires : tie.Need-keeps-rules-requires
+keeps-rules-requires c κs = search needs
+
+refused-setup-requires-2 : tie.Need-refused-setup-requires-2
+refused-setup-requires-2 c κs = search needs
+
+returns-2 : tie.Need-returns-2
+unfolding admitted
+returns-2 c =
+    rw (← c .before .before .before .before .broadcast .ensures, c .before .before .before .if1 .left, ← c .before .before .keeps-rules .ensures, not-true (c .before .before .keeps-rules .result) (c .before .if2 .taken))
+    (c .refused-setup2 .ensures)
+
+contents-answers-requires : tie.Need-contents-answers-requires
+contents-answers-requires c κs = search needs
+
+enum-told : tie.Need-enum-told
+enum-told c = search needs
+
+enum-told-2 : tie.Need-enum-told-2
+enum-told-2 c = search needs
+
+write-answer-requires : tie.Need-write-answer-requires
+write-answer-requires c κs = search needs
+
+refused-setup-requires-3 : tie.Need-refused-setup-requires-3
+refused-setup-requires-3 c κs = search needs
+
+returns-3 : tie.Need-returns-3
+unfolding admitted admittedWith
+returns-3 c =
+    rw (← c .before .before .before .before .before .before .before .before .broadcast .ensures, c .before .before .before .before .before .before .before .if1 .left, ← c .before .before .before .before .before .before .keeps-rules .ensures, not-false (c .before .before .before .before .before .before .keeps-rules .result) (c .before .before .before .before .before .if2 .left), ← c .before .before .before .before .contents-answers .ensures, c .refused-setup3 .ensures, c .before .write-answer .ensures, c .before .before .enum-told2 .given .1)
+
+fresh-requires : tie.Need-fresh-requires
+fresh-requires c κs = search needs
+
+answering-requires : tie.Need-answering-requires
+answering-requires c κs = search needs
+
+returns-4 : tie.Need-returns-4
+unfolding admitted admittedWith
+returns-4 c =
+    rw (← c .before .before .before .before .before .before .before .before .broadcast .ensures, c .before .before .before .before .before .before .before .if1 .left, ← c .before .before .before .before .before .before .keeps-rules .ensures, not-false (c .before .before .before .before .before .before .keeps-rules .result) (c .before .before .before .before .before .if2 .left), ← c .before .before .before .before .contents-answers .ensures, c .before .before .enum-told .given .1, c .answering .ensures, c .before .fresh .ensures)
+
+pub admitted-spec : {M : Type 1} → statement M
+admitted-spec = tie.close (tie.spec broadcast-requires refused-setup-requires returns keeps-rules-requires refused-setup-requires-2 returns-2 contents-answers-requires enum-told enum-told-2 write-answer-requires refused-setup-requires-3 returns-3 fresh-requires answering-requires returns-4)

@@ -1,0 +1,22 @@
+-- What owning a card by value tells of its lists: the arrays' lengths.
+use Prim.Native.Nat.{ℕ}
+use mathlib.Core.List.{List}
+use mathlib.Core.Path.{_≡_}
+use lib.ListN.{length}
+use borrow.Author.Needs.{length-unmapped}
+use mir.Val.{Val}
+use denote.Shadow.{shadow}
+use Rattle.receiver.proofs.Lengths.{octets-length}
+use Rattle.records.proofs.Shape as records
+use Rattle.card.specs.declared.Card.{Card}
+use Rattle.card.proofs.Card as row
+
+module _ (c : Card) (vs : List Val) (own : shadow (row.the-row .own c vs)) where
+  pub waiting-length : length (c .waiting) ≡ 100
+  waiting-length = length-unmapped ℕ (c .waiting) 100 (own .1 .1 .1 .1 .1 .1 .0 .1 .0 .1)
+
+  pub receiver-length : length (c .receiver .octets) ≡ 127
+  receiver-length = octets-length (c .receiver) _ (own .1 .1 .1 .1 .1 .1 .1 .1 .0)
+
+  pub records-length : length (c .records .each) ≡ 32
+  records-length = records.each-length (c .records) _ (own .1 .1 .1 .1 .0)

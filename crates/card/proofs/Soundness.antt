@@ -1,0 +1,39 @@
+-- The test for 12 is passed exactly if `Sound` holds.
+use Prim.Native.Nat.{ℕ, _≤_}
+use mathlib.Core.Bool.{Bool, true, false, not, _&&_, and-eq-true-iff}
+use mathlib.Core.Logic.{_↔_}
+use mathlib.Core.Path.{_≡_}
+use borrow.Author.Tests.{le-leb, leb-true, not-true}
+use Rattle.records.specs.Setup as records
+use Rattle.records.proofs.Soundness as records-laws
+use Rattle.receiver.specs.Receiver as receiver
+use Rattle.receiver.proofs.Soundness as receiver-laws
+use Rattle.card.specs.declared.Card.{Card}
+use Rattle.card.specs.Soundness.{broadcast, waitingLength, fitting, sound, Sound}
+
+module _ (c : Card) where
+  sound-of : sound c ≡ true → Sound c
+  unfolding sound
+  sound-of h =
+      let first = and-eq-true-iff (not (broadcast (c .address))) (fitting (c .phase) && (receiver.sound (c .receiver) && records.sound (c .records))) .0 h in
+      let second = and-eq-true-iff (fitting (c .phase)) (receiver.sound (c .receiver) && records.sound (c .records)) .0 (first .1) in
+      let third = and-eq-true-iff (receiver.sound (c .receiver)) (records.sound (c .records)) .0 (second .1) in
+      record {
+        address = not-true (broadcast (c .address)) (first .0);
+        waiting = leb-true (waitingLength (c .phase)) 100 (second .0);
+        receiver = receiver-laws.test-sound (c .receiver) (third .0);
+        records = records-laws.sound-means (c .records) .0 (third .1);
+      }
+
+  pub sound-test : Sound c → sound c ≡ true
+  unfolding sound
+  sound-test s =
+      rw (
+        s .address,
+        le-leb (waitingLength (c .phase)) 100 (s .waiting),
+        receiver-laws.sound-test (c .receiver) (s .receiver),
+        records-laws.sound-means (c .records) .1 (s .records),
+      )
+
+  pub sound-means : (sound c ≡ true) ↔ Sound c
+  sound-means = (sound-of, sound-test)

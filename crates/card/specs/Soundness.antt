@@ -1,0 +1,38 @@
+-- The cards that no call refuses with 12 (01, The card).
+use Prim.Native.Nat.{ℕ, _≤_}
+use mathlib.Core.Path.{_≡_}
+use mathlib.Core.Bool.{Bool, true, false, not, _&&_}
+use mathlib.Core.List.{List}
+use lib.Dec.{leb}
+use lib.ListN.{replicate}
+use Rattle.octets.specs.Part.{same}
+use Rattle.records.specs.Setup as records
+use Rattle.receiver.specs.Receiver as receiver
+use Rattle.card.specs.declared.Phase.{Phase}
+use Rattle.card.specs.declared.Phase.the-variants.{Idle, Waiting}
+use Rattle.card.specs.declared.Card.{Card}
+
+-- 004 4.4.8: "There is only one broadcast physical address which is the general broadcast ADG coded as 000000000000"
+unfoldable pub broadcast : List ℕ → Bool
+broadcast address = same address (replicate 6 0)
+
+-- how many octets of DATA wait
+abbrev pub waitingLength : Phase → ℕ
+waitingLength Idle = 0
+waitingLength (Waiting adp tab n) = n .0
+
+-- no more DATA waits than a REC can have
+abbrev pub fitting : Phase → Bool
+fitting p = leb (waitingLength p) 100
+
+-- "a card .. that breaks a setup rule, holds a length over its limit or a state mark not in use is refused with 12 ..; so is a partly received
+-- frame whose N answer 1 would refuse, or with as many octets as its N states or more." Every state mark of a card by value is in use by its type.
+unfoldable pub sound : Card → Bool
+sound c = not (broadcast (c .address)) && (fitting (c .phase) && (receiver.sound (c .receiver) && records.sound (c .records)))
+
+-- the same rules one by one
+pub record Sound (c : Card) : Type 0 where
+  pub address : broadcast (c .address) ≡ false
+  pub waiting : waitingLength (c .phase) ≤ 100
+  pub receiver : receiver.Sound (c .receiver)
+  pub records : records.Sound (c .records)

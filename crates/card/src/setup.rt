@@ -1,0 +1,78 @@
+// Setup (01, The card).
+ghost use mathlib.Core.Path.{_≡_};
+ghost use lib.ListN.{length};
+ghost use Rattle.card.specs.Setup.{bare, fresh, refusedSetup, admitted, afterSetup};
+use crate::Answer;
+use crate::Answered;
+use crate::Card;
+use crate::Phase;
+use crate::frames::write_answer;
+use crate::sound::broadcast;
+use receiver::Receiver;
+use records::Records;
+
+impl Card {
+    // A card as setup leaves it: receiver empty, no wait, first contents.
+    fn fresh(address: [u8; 6], key: [u8; 8], records: Records) -> Card
+        ensures { λ r. ⌜ r ≡ fresh address key records ⌝ }
+    {
+        let receiver = Receiver::new();
+        Card {
+            address: address,
+            key: key,
+            records: records,
+            phase: Phase::Idle,
+            waiting: [0u8; 100],
+            na2: [0u8; 8],
+            receiver: receiver,
+        }
+    }
+
+    // The sound card without records that a refused setup hands back.
+    fn bare() -> Card
+        ensures { λ r. ⌜ r ≡ bare ⌝ }
+    {
+        let address = [0, 0, 0, 0, 0, 1];
+        let key = [0x01, 0x23, 0x45, 0x67, 0x89, 0xAB, 0xCD, 0xEF];
+        Card::fresh(address, key, Records::empty())
+    }
+
+    fn refused_setup(answer: Answer) -> Answered
+        ensures { λ r. ⌜ r ≡ refusedSetup answer ⌝ }
+    {
+        Answered {
+            card: Card::bare(),
+            answer: answer,
+        }
+    }
+
+    // Setup's checks after 17: the address (6), the rules of the records (12), then each content in turn (7, 8, 9).
+    fn admitted(address: [u8; 6], key: [u8; 8], records: Records) -> Answered
+        ensures { λ r. ⌜ r ≡ admitted address key records ⌝ }
+    {
+        if broadcast(address) {
+            return Card::refused_setup(Answer::BroadcastAddress);
+        }
+        if !records.keeps_rules() {
+            return Card::refused_setup(Answer::BrokenRule);
+        }
+        let contents = records.contents_answers();
+        let records::Answer::Accepted = contents else {
+            return Card::refused_setup(write_answer(contents));
+        };
+        Card::fresh(address, key, records).answering(Answer::Nothing)
+    }
+
+    // A refused setup hands back a fixed sound card without records.
+    pub fn setup(address: &[u8], key: &[u8], records: Records) -> Answered
+        ensures { λ r. ⌜ r ≡ afterSetup (now (address .entry)) (now (key .entry)) records ⌝ }
+    {
+        if address.len() != 6 {
+            return Card::refused_setup(Answer::WrongLength);
+        }
+        if key.len() != 8 {
+            return Card::refused_setup(Answer::WrongLength);
+        }
+        Card::admitted(octets::six(address), octets::eight(key), records)
+    }
+}

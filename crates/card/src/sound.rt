@@ -1,0 +1,49 @@
+// The cards that no call refuses with 12.
+ghost use mathlib.Core.Path.{_≡_};
+ghost use Rattle.card.specs.Soundness.{broadcast, fitting, sound};
+use crate::Card;
+use crate::Phase;
+
+// Whether an address is the broadcast one.
+pub(crate) fn broadcast(address: [u8; 6]) -> bool
+    ensures { λ r. ⌜ r ≡ broadcast address ⌝ }
+{
+    octets::equal(&address, &[0u8; 6])
+}
+
+impl Phase {
+    // Whether the exchange that waits has no more DATA than a REC can have.
+    fn fitting(self) -> bool
+        ensures { λ r. ⌜ r ≡ fitting self ⌝ }
+    {
+        match self {
+            Phase::Idle => true,
+            Phase::Waiting {
+                adp: _,
+                tab: _,
+                length,
+            } => length.0 <= 100,
+        }
+    }
+}
+
+impl Card {
+    pub(crate) fn sound(self) -> bool
+        ensures { λ r. ⌜ r ≡ sound self ⌝ }
+    {
+        let address = self.address;
+        if broadcast(address) {
+            return false;
+        }
+        let phase = self.phase;
+        if !phase.fitting() {
+            return false;
+        }
+        let receiver = self.receiver;
+        if !receiver.is_sound() {
+            return false;
+        }
+        let records = self.records;
+        records.sound()
+    }
+}

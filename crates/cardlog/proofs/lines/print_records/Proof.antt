@@ -1,0 +1,50 @@
+-- `print_records` is safe and ends: a card has 32 records, and the rest of them falls by one a turn.
+use Prim.Native.Nat.{_-_, _≤_}
+use borrow.Author.Needs.{needs}
+use Rattle.cardlog.proofs.lines.print_records.Statement.{statement}
+use Rattle.cardlog.proofs.lines.print_records.Tie as tie
+
+abbrev Inv-loop : tie.InvT-loop
+Inv-loop records i₀ i = i ≤ 32
+
+abbrev μ-loop : tie.MeasureT-loop
+μ-loop records i₀ i = 32 - i
+
+loop-holds : tie.Need-loop-holds Inv-loop μ-loop
+loop-holds c = search needs
+
+mul-print-record : tie.Need-mul-print-record Inv-loop μ-loop
+mul-print-record c = search needs
+
+element-copy-out-print-record : tie.Need-element-copy-out-print-record Inv-loop μ-loop
+element-copy-out-print-record c = search needs
+
+print-record-requires : tie.Need-print-record-requires Inv-loop μ-loop
+print-record-requires c κs = search needs
+
+add-i : tie.Need-add-i Inv-loop μ-loop
+add-i c = search needs
+
+loop-less : tie.Need-loop-less Inv-loop μ-loop
+loop-less c = search needs
+
+loop-again : tie.Need-loop-again Inv-loop μ-loop
+loop-again c = search needs
+
+returns : tie.Need-returns Inv-loop μ-loop
+returns c = search needs
+
+pub print-records-spec : {M : Type 1} → statement M
+print-records-spec =
+    tie.close
+    (tie.spec
+    Inv-loop
+    μ-loop
+    loop-holds
+    mul-print-record
+    element-copy-out-print-record
+    print-record-requires
+    add-i
+    loop-less
+    loop-again
+    returns)
