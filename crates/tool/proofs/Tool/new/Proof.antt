@@ -1,0 +1,16 @@
+-- `Tool::new` is made of a fresh memory and a fresh receiver.
+use borrow.Author.Needs.{needs}
+use Rattle.tool.proofs.Tool.new.Statement.{statement}
+use Rattle.tool.proofs.Tool.new.Tie as tie
+
+new-requires : tie.Need-new-requires
+new-requires c κs = search needs
+
+new-requires-2 : tie.Need-new-requires-2
+new-requires-2 c κs = search needs
+
+returns : tie.Need-returns
+returns c = rw (c .new2 .ensures, c .before .new .ensures)
+
+pub new-spec : {M : Type 1} → statement M
+new-spec = tie.close (tie.spec new-requires new-requires-2 returns)
