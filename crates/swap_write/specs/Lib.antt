@@ -1,0 +1,3 @@
+pub mod Heads
+pub mod Heading
+pub mod Writing

@@ -1,0 +1,59 @@
+-- What the writer answers and leaves in the buffer (01, Swap file): the reader's verdict on the would-be file, then 17.
+use Prim.Native.Nat.{ℕ, _+_}
+use mathlib.Core.Bool.{cond}
+use mathlib.Core.List.{List}
+use lib.Dec.{leb, ltb}
+use lib.ListN.{length}
+use Rattle.label.specs.declared.Octets.{Octets}
+use Rattle.label.specs.Fitting.{Answer, given, refused, inOctets}
+use Rattle.octets.specs.Splice.{fronted}
+use Rattle.swap.specs.declared.file.Records.{Records}
+use Rattle.swap.specs.Record.{fileLimit}
+use Rattle.swap.specs.Reading.{verdictOf, swapFault}
+use Rattle.swap_write.specs.declared.Written.{Written}
+use Rattle.swap_write.specs.declared.Written.the-variants.{Whole, Fault, Short}
+use Rattle.swap_write.specs.declared.size.Size.{Size}
+use Rattle.swap_write.specs.declared.size.Size.the-variants as size
+use Rattle.swap_write.specs.Heads.{fileOf}
+
+-- 01, Numbers handed back: a buffer too short for the file
+abbrev pub tooShort : ℕ
+tooShort = 17
+
+-- the length of the file written, 17, or 18 with an offset
+pub data Writing : Type 0 where
+  wrote : Octets → Writing
+  short : ℕ → Writing
+  faulty : ℕ → Octets → Writing
+
+abbrev pub answerOfWritten : Written → Writing
+answerOfWritten (Whole length) = wrote length
+answerOfWritten (Fault offset) = faulty swapFault offset
+answerOfWritten Short = short tooShort
+
+-- the answer, and the buffer after the call
+pub record Outcome : Type 0 where
+  pub answer : Writing
+  pub buffer : List ℕ
+
+-- a file that the reader accepts goes to the front of the buffer, where it fits
+unfoldable pub laid : List ℕ → List ℕ → Outcome
+laid file buffer =
+    cond (leb (length file) (length buffer))
+    (record { answer = wrote (inOctets (length file)); buffer = fronted file buffer })
+    (record { answer = short tooShort; buffer = buffer })
+
+unfoldable pub judgedWriting : Answer Records → List ℕ → List ℕ → Outcome
+judgedWriting (given count) file buffer = laid file buffer
+judgedWriting (refused n offset) file buffer = record { answer = faulty n offset; buffer = buffer }
+
+unfoldable pub writing : List ℕ → List ℕ → List ℕ → Outcome
+writing heads contents buffer = judgedWriting (verdictOf (fileOf heads contents)) (fileOf heads contents) buffer
+
+-- the length of a file, if it is within the limit
+unfoldable pub sizeOf : List ℕ → Size
+sizeOf file = cond (ltb fileLimit (length file)) size.Long (size.Within (inOctets (length file)))
+
+-- so many octets and more
+unfoldable pub sizeAfter : ℕ → ℕ → Size
+sizeAfter sum more = cond (ltb fileLimit (sum + more)) size.Long (size.Within (inOctets (sum + more)))

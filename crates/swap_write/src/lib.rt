@@ -1,0 +1,39 @@
+// Writing a swap file from records in two lent slices: heads of ten octets, and their data one after the other (01, Swap file).
+ghost use mathlib.Core.Path.{_≡_};
+ghost use Rattle.swap_write.specs.Writing.{answerOfWritten, writing};
+
+pub mod judge;
+pub mod lay;
+pub mod size;
+
+use label::Octets;
+use size::Size;
+use swap::Verdict;
+
+// What writing answers: the length of the file, the offset of the first bad item of a file that would be faulty, or that the buffer is too short.
+pub enum Written {
+    Whole(Octets),
+    Fault(Octets),
+    Short,
+}
+
+// Writes the file at the front of a buffer; a refusal leaves the buffer as it is.
+pub fn write(heads: &[u8], contents: &[u8], buffer: &mut [u8]) -> Written
+    ensures { λ r. ⌜ (answerOfWritten r ≡ writing (now (heads .entry)) (now (contents .entry)) (now (buffer .entry)) .answer) × (now (buffer .exit) ≡ writing (now (heads .entry)) (now (contents .entry)) (now (buffer .entry)) .buffer) ⌝ }
+{
+    let size = size::file_size(heads, contents);
+    let Size::Within(length) = size else {
+        return Written::Fault(Octets(65536));
+    };
+    let verdict = judge::judge(heads, contents);
+    match verdict {
+        Verdict::Fault(offset) => Written::Fault(offset),
+        Verdict::Accepted(_) => {
+            if buffer.len() < length.0 {
+                return Written::Short;
+            }
+            lay::lay(heads, contents, buffer);
+            Written::Whole(length)
+        }
+    }
+}
