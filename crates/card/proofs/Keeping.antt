@@ -1,9 +1,10 @@
 -- What every call on a sound card comes to: a sound card again, no refusal with 12, and after a refusal no more than the receiver and the
 -- phase another. By cases on the call, the receiver's outcome and the command.
 use Prim.Native.Nat.{ℕ, _≤_}
-use mathlib.Core.Path.{_≡_, refl, sym, ap, _∙_}
+use mathlib.Core.Path.{_≡_, refl, _∙_}
 use mathlib.Core.Bool.{Bool, true, false, cond, _&&_}
 use mathlib.Core.List.{List, []}
+use mathlib.Core.Logic.{_⊎_, inl, inr}
 use native.Mathlib.Omega.{arith}
 use lib.Dec.{eqb, leb}
 use lib.ListN.{length}
@@ -17,7 +18,6 @@ use Rattle.frame.specs.Layout.{layoutOf, within}
 use Rattle.frame.specs.Content.{fieldsOf, dataOf}
 use Rattle.records.specs.declared.Access.{Access}
 use Rattle.records.specs.declared.Access.the-variants.{Meter, Programming, Transfer}
-use Rattle.records.specs.declared.Records.{Records}
 use Rattle.records.specs.declared.Refusal.{Refusal}
 use Rattle.records.specs.declared.Refusal.the-variants.{TooLong, IllFormed, TooManyCharacters, NoRecord, NotOpen}
 use Rattle.records.specs.Numbers.{refusalNumber}
@@ -37,7 +37,7 @@ use Rattle.card.specs.declared.Phase.{Phase}
 use Rattle.card.specs.declared.Phase.the-variants.{Idle, Waiting}
 use Rattle.card.specs.declared.Card.{Card}
 use Rattle.card.specs.declared.Answer.{Answer}
-use Rattle.card.specs.declared.Answer.the-variants.{Nothing, BadFrame, BroadcastAddress, Refused, BrokenRule, WrongCipher, WrongLength}
+use Rattle.card.specs.declared.Answer.the-variants.{Nothing, BadFrame, Refused, BrokenRule, WrongCipher, WrongLength}
 use Rattle.card.specs.Numbers.{numberOf}
 use Rattle.card.specs.Parts.{withRecords, Response, responding}
 use Rattle.card.specs.Soundness.{sound, Sound}
@@ -51,13 +51,14 @@ pub record Whole (c : Card) : Type 0 where
   pub sound : Sound c
   pub long : length (c .receiver .octets) ≡ 127
 
--- All but the receiver and the phase is as it was.
+-- All but the receiver is as it was, and so is the wait, but that it may be over.
 pub record Unchanged (c d : Card) : Type 0 where
   pub address : d .address ≡ c .address
   pub key : d .key ≡ c .key
   pub records : d .records ≡ c .records
   pub waiting : d .waiting ≡ c .waiting
   pub na2 : d .na2 ≡ c .na2
+  pub phase : (d .phase ≡ c .phase) ⊎ (d .phase ≡ Idle)
 
 -- No call changes what setup gave the card besides its records.
 pub record Fixed (c d : Card) : Type 0 where
@@ -102,10 +103,10 @@ refusal-plain r = below (Refused r) (most r)
 
 module _ (c : Card) where
   unchanged-self : Unchanged c c
-  unchanged-self = record { address = refl; key = refl; records = refl; waiting = refl; na2 = refl }
+  unchanged-self = record { address = refl; key = refl; records = refl; waiting = refl; na2 = refl; phase = inl refl }
 
   step-unchanged : (s : Step) → Unchanged c (afterStep s c)
-  step-unchanged s = record { address = refl; key = refl; records = refl; waiting = refl; na2 = refl }
+  step-unchanged s = record { address = refl; key = refl; records = refl; waiting = refl; na2 = refl; phase = inl refl }
 
   unmade-course : Whole c → Course c (responding c WrongLength [])
   unmade-course h =
@@ -144,7 +145,7 @@ cond-course c false r q h k = k
 -- c is the card that the call was made on, and b that card after its receiver's step
 module _ (c b : Card) (u : Unchanged c b) (h : Whole b) where
   idle-unchanged : Unchanged c (idle b)
-  idle-unchanged = record { address = u .address; key = u .key; records = u .records; waiting = u .waiting; na2 = u .na2 }
+  idle-unchanged = record { address = u .address; key = u .key; records = u .records; waiting = u .waiting; na2 = u .na2; phase = inr refl }
 
   idle-whole : Whole (idle b)
   idle-whole =
@@ -180,6 +181,7 @@ module _ (c b : Card) (u : Unchanged c b) (h : Whole b) where
             records = write-refused (b .records) access t d refusal e ∙ u .records;
             waiting = u .waiting;
             na2 = u .na2;
+            phase = u .phase;
           })
           (records-whole access t d)
 

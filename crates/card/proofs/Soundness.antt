@@ -1,6 +1,5 @@
 -- The test for 12 is passed exactly if `Sound` holds.
-use Prim.Native.Nat.{ℕ, _≤_}
-use mathlib.Core.Bool.{Bool, true, false, not, _&&_, and-eq-true-iff}
+use mathlib.Core.Bool.{true, not, _&&_, and-eq-true-iff}
 use mathlib.Core.Logic.{_↔_}
 use mathlib.Core.Path.{_≡_}
 use borrow.Author.Tests.{le-leb, leb-true, not-true}

@@ -2,7 +2,7 @@
 use Prim.Native.Nat.{ℕ}
 use mathlib.Core.Path.{_≡_, refl, sym, ap, _∙_}
 use mathlib.Core.Bool.{Bool, true, false, cond}
-use mathlib.Core.List.{List, []}
+use mathlib.Core.List.{List}
 use Rattle.frame.specs.declared.codes.Command.{Command}
 use Rattle.frame.specs.declared.codes.Command.the-variants.{Enq, Dat, Rec, Ech, Aut, Eos, Aso, Rso, Ib, Drj, Arj, Trf, Trb, Tra, Pre, Sel}
 use Rattle.frame.specs.declared.content.Fields.{Fields}
@@ -15,7 +15,7 @@ use Rattle.card.specs.declared.Phase.{Phase}
 use Rattle.card.specs.declared.Phase.the-variants.{Idle, Waiting}
 use Rattle.card.specs.declared.Card.{Card}
 use Rattle.card.specs.Parts.{withReceiver, Response, responding}
-use Rattle.card.specs.Frames.{taken, silent, written, settled, enqFor, onEnq, onRec, authentic, autIn, onAut, onTrf, onTrb, onIb, respond, onFrame}
+use Rattle.card.specs.Frames.{taken, written, settled, enqFor, onEnq, onRec, authentic, autIn, onAut, onTrf, onTrb, onIb, respond, onFrame}
 
 -- all of a card but its receiver
 abbrev pub stationOf : Card → Card

@@ -6,7 +6,7 @@ use mathlib.Core.Bool.{Bool, true, false, cond}
 use mathlib.Core.List.{List, [], _∷_, _++_, append-nil}
 use lib.ListN.{length, replicate}
 use borrow.Author.Tests.{eq-eqb, le-leb}
-use Rattle.card.proofs.Impossible.{impossible}
+use Rattle.octets.proofs.Impossible.{impossible}
 use Rattle.frame.specs.declared.codes.Command.{Command}
 use Rattle.frame.specs.declared.checks.Verdict.the-variants.{Good}
 use Rattle.frame.specs.Checks.{inspected}
@@ -18,10 +18,10 @@ use Rattle.receiver.proofs.Soundness.{reception-sound, holding-reception}
 use Rattle.receiver.proofs.Follows.{octet-keeps}
 use Rattle.receiver.proofs.Frames.{endingIn, good-frame}
 use Rattle.card.specs.declared.Card.{Card}
-use Rattle.card.specs.Parts.{Response, responding}
-use Rattle.card.specs.Frames.{taken, silent, onFrame}
+use Rattle.card.specs.Parts.{Response}
+use Rattle.card.specs.Frames.{silent, onFrame}
 use Rattle.card.specs.Events.{Octet, afterStep, heardAs, heard, afterOctet, after}
-use Rattle.card.specs.TakingOut.{Sending, Usable, AllUsable, Fed, listed, before, fedOctets, fed, takenAs, takenOnly, Alike}
+use Rattle.card.specs.TakingOut.{Sending, Usable, AllUsable, Fed, listed, fedOctets, fed, takenAs, takenOnly, Alike}
 use Rattle.card.proofs.Soundness.{sound-test}
 use Rattle.card.proofs.Keeping.{Whole, course}
 use Rattle.card.proofs.Station.{stationOf, frame-receiver, same-station, same-reply}

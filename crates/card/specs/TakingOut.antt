@@ -11,7 +11,6 @@ use Rattle.frame.specs.declared.checks.Verdict.the-variants.{Good, Refused}
 use Rattle.frame.specs.Checks.{inspected}
 use Rattle.frame.specs.Content.{fieldsOf}
 use Rattle.card.specs.declared.Card.{Card}
-use Rattle.card.specs.Parts.{Response}
 use Rattle.card.specs.Frames.{taken}
 use Rattle.card.specs.Events.{afterOctet}
 

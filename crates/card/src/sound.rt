@@ -28,7 +28,8 @@ impl Phase {
 }
 
 impl Card {
-    pub(crate) fn sound(self) -> bool
+    // Whether no call refuses this card with 12.
+    pub fn sound(self) -> bool
         ensures { λ r. ⌜ r ≡ sound self ⌝ }
     {
         let address = self.address;

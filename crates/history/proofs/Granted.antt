@@ -31,7 +31,7 @@ use Rattle.card.specs.Setup.{afterSetup}
 use Rattle.card.specs.Events.{Call, Octet, SessionEnd, MeterWrite}
 use Rattle.history.specs.Book.{Setup, Exchange, None, Book, receiving, waiting, Cause, Metered, Transferred, Broadcast, accessOf, note, authenticated, onFrame, heardAs, heard, step, steps, setupOf, fresh, bookOf}
 use Rattle.history.specs.Claim.{Holds, run, Arrays}
-use Rattle.history.proofs.Impossible.{impossible}
+use Rattle.octets.proofs.Impossible.{impossible}
 use Rattle.history.proofs.Start.{setup-accepted}
 use Rattle.history.proofs.History.{history-kept}
 

@@ -1,7 +1,6 @@
-mod Impossible
-mod Notes
-mod Agreement
-mod Start
+pub mod Notes
+pub mod Agreement
+pub mod Start
 pub mod History
 pub mod Granted
 mod Decoding

@@ -21,7 +21,7 @@ use Rattle.card.specs.Setup.{fresh, admittedWith, admitted, afterSetup, refused
 use Rattle.history.specs.Book as book
 use Rattle.history.specs.Book.{setupOf}
 use Rattle.history.specs.Claim.{Arrays}
-use Rattle.history.proofs.Impossible.{impossible}
+use Rattle.octets.proofs.Impossible.{impossible}
 use Rattle.history.proofs.Notes.{first-noted}
 use Rattle.history.proofs.Agreement.{Agrees}
 

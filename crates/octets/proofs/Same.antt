@@ -2,7 +2,7 @@
 use Prim.Native.Nat.{ℕ, suc, _+_, _<_, _≤_}
 use mathlib.Core.Path.{_≡_, refl, ap}
 use mathlib.Core.List.{List, [], _∷_}
-use mathlib.Core.Bool.{Bool, true, false, _&&_, and-false}
+use mathlib.Core.Bool.{true, false, and-false, and-eq-true-iff}
 use native.Mathlib.Numerals.{add-one}
 use native.Mathlib.Omega.{arith}
 use lib.ListN.{length, drop, getD, drop-of-length-le}
@@ -16,17 +16,13 @@ unfolding same
 same-self [] = refl
 same-self (x ∷ s) = rw (eq-eqb x x refl) (same-self s)
 
-both : (a b : Bool) → (a && b) ≡ true → (a ≡ true) × (b ≡ true)
-both true b e = (refl, e)
-both false b e = (e, cc)
-
 pub same-equal : (s t : List ℕ) → same s t ≡ true → s ≡ t
 unfolding same
 same-equal [] [] e = refl
 same-equal [] (y ∷ t) e = cc
 same-equal (x ∷ s) [] e = cc
 same-equal (x ∷ s) (y ∷ t) e =
-    let h = both _ _ e in
+    let h = and-eq-true-iff (eqb x y) (same s t) .0 e in
     let p : x ≡ y = eqb-true x y (h .0) in
     let q : s ≡ t = same-equal s t (h .1) in
     cc

@@ -25,7 +25,7 @@ use Rattle.receiver.proofs.Fronts.{length-snoc, front-first}
 use Rattle.receiver.proofs.Soundness.{Partly, SoundReception, reception-sound}
 use Rattle.receiver.proofs.Follows.{octet-follows}
 use Rattle.receiver.proofs.Frames.{whole-inspected}
-use Rattle.receiver.proofs.Impossible.{impossible}
+use Rattle.octets.proofs.Impossible.{impossible}
 
 -- A good frame f that the octet o completes.
 pub record Arrived (h : Reception) (o : ℕ) (c : Command) (f : List ℕ) : Type 0 where

@@ -15,7 +15,7 @@ use Rattle.receiver.specs.declared.Received.{Received}
 use Rattle.receiver.specs.declared.Event.the-variants.{Refused}
 use Rattle.receiver.specs.Receiving.{Reception, Awaiting, Skipping, Partial, Outcome, Silent, Dropped, Complete, Step, to, begun, grown, verdictOn, onOctet, onGap, onSessionEnd}
 use Rattle.receiver.specs.Receiver.{Sound, sound, receptionOf, eventOf, given, refused, answered, afterOctet, afterGap, afterSessionEnd}
-use Rattle.receiver.proofs.Impossible.{impossible}
+use Rattle.octets.proofs.Impossible.{impossible}
 use Rattle.receiver.proofs.Fronts.{length-snoc}
 use Rattle.receiver.proofs.Growth.{first-snoc}
 use Rattle.receiver.proofs.Stated.{stated-range}

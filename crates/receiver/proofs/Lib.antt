@@ -1,4 +1,3 @@
-mod Impossible
 mod Fronts
 mod Growth
 mod Cases

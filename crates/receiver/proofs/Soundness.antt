@@ -16,7 +16,7 @@ use Rattle.frame.specs.Checks.{statedBy}
 use Rattle.receiver.specs.declared.Receiver.{Receiver}
 use Rattle.receiver.specs.Receiving.{Reception, Awaiting, Skipping, Partial}
 use Rattle.receiver.specs.Receiver.{Unfinished, Sound, sound, fresh, statedN, fewer, receptionOf, holding}
-use Rattle.receiver.proofs.Impossible.{impossible}
+use Rattle.octets.proofs.Impossible.{impossible}
 use Rattle.receiver.proofs.Fronts.{front-first}
 use Rattle.receiver.proofs.Stated.{stated-whole, stated-range}
 

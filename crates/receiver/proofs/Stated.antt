@@ -7,7 +7,7 @@ use Rattle.octets.proofs.Bounds.{between-both, between-bounds}
 use Rattle.label.specs.declared.Octets.{Octets}
 use Rattle.frame.specs.declared.checks.Stated.the-variants.{Whole, Outside}
 use Rattle.frame.specs.Checks.{statedBy}
-use Rattle.receiver.proofs.Impossible.{impossible}
+use Rattle.octets.proofs.Impossible.{impossible}
 
 pub stated-whole : (n : ℕ) → 11 ≤ n → n ≤ 128 → statedBy n ≡ Whole (record { 0 = n })
 unfolding statedBy

@@ -1,7 +1,7 @@
 -- What a record shows that was judged good, item by item, and that these facts make it good.
 use Prim.Native.Nat.{ℕ, _+_, _≤_}
 use mathlib.Core.Path.{_≡_, refl}
-use mathlib.Core.Bool.{Bool, true, false, cond, _&&_}
+use mathlib.Core.Bool.{Bool, true, false, cond, and-eq-true-iff}
 use mathlib.Core.List.{List}
 use native.Mathlib.Omega.{arith}
 use lib.ListN.{length, getD, take, drop, length-drop}
@@ -22,10 +22,6 @@ pub record Shown (least : ℕ) (t : List ℕ) (w n : ℕ) : Type 0 where
   pub short : n ≤ lengthLimit (kindOf (getD t 7 0))
   pub fits : 8 + w + n ≤ length t
   pub text : acceptable (kindOf (getD t 7 0)) (take n (drop (8 + w) t)) ≡ true
-
-both : (a b : Bool) → a && b ≡ true → (a ≡ true) × (b ≡ true)
-both true b e = (refl, e)
-both false b e = let z : _≡_ {A = ℕ} 0 1 = cc in let y : ⊥ = omega arith in absurd y
 
 not-good : (o w n : ℕ) → bad o ≡ good w n → ⊥
 not-good o w n e = let z : _≡_ {A = ℕ} 0 1 = cc in omega arith
@@ -62,12 +58,12 @@ unfolding judged goodAddress goodKind goodContent lengthAt
 shown least t w n e =
     let kind : Kind = kindOf (getD t 7 0) in
     let p = passed (goodAddress least t) _ 0 w n e in
-    let a = both (leb 7 (length t)) (leb least (keyOf (take 7 t))) (p .0) in
+    let a = and-eq-true-iff (leb 7 (length t)) (leb least (keyOf (take 7 t))) .0 (p .0) in
     let q = passed (goodKind (drop 7 t)) _ 7 w n (p .1) in
-    let k = both (ltb 0 (length (drop 7 t))) (knownKind (getD (drop 7 t) 0 0)) (q .0) in
+    let k = and-eq-true-iff (ltb 0 (length (drop 7 t))) (knownKind (getD (drop 7 t) 0 0)) .0 (q .0) in
     let c = content-shown kind (lengthAt kind (drop 8 t)) (drop 8 t) w n (q .1) in
     let l = within-limit (lengthLimit kind) (frontOf (drop 8 t)) n w (c .0) in
-    let g = both (leb n (length (drop w (drop 8 t)))) (acceptable kind (take n (drop w (drop 8 t)))) (c .1) in
+    let g = and-eq-true-iff (leb n (length (drop w (drop 8 t)))) (acceptable kind (take n (drop w (drop 8 t)))) .0 (c .1) in
     let f = front-within (drop 8 t) n w (l .0) in
     record {
       high = leb-true _ _ (a .1);

@@ -1,7 +1,7 @@
 // The kinds of a record and what each asks of its data.
 ghost use mathlib.Core.Path.{_≡_};
 ghost use Rattle.label.specs.Utf8.{wellFormed};
-ghost use Rattle.swap.specs.Record.{knownKind, kindOf, lengthLimit, acceptable};
+ghost use Rattle.swap.specs.Record.{kindOctet, knownKind, kindOf, lengthLimit, acceptable};
 use label::Octets;
 use label::Text;
 
@@ -23,6 +23,16 @@ pub fn kind_of(octet: u8) -> Kind
     ensures { λ r. ⌜ r ≡ kindOf octet ⌝ }
 {
     if octet == 1 { Kind::Label } else { Kind::Raw }
+}
+
+// The octet that stands for a kind.
+pub fn octet_of(kind: Kind) -> u8
+    ensures { λ r. ⌜ r ≡ kindOctet kind ⌝ }
+{
+    match kind {
+        Kind::Raw => 0,
+        Kind::Label => 1,
+    }
 }
 
 // The most octets that the data of a kind has.

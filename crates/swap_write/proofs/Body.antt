@@ -1,7 +1,7 @@
 -- The octets of a head with its data, as the reader judges them: the head and the data alone say what it finds.
 use Prim.Native.Nat.{ℕ, suc, _+_, _^_, _≤_, _<_}
 use mathlib.Core.Path.{_≡_, refl, sym, _∙_}
-use mathlib.Core.Bool.{Bool, true, false, cond, _&&_}
+use mathlib.Core.Bool.{Bool, true, false, cond, and-eq-true-iff}
 use mathlib.Core.List.{List, _++_, append-assoc}
 use native.Mathlib.Omega.{arith}
 use lib.ListN.{length, getD, take, drop, length-append, length-drop, List·getD-append}
@@ -131,10 +131,6 @@ passed : (b : Bool) (h : Head) (o n : ℕ) → cond b h (Bad o) ≡ Good n → (
 passed true h o n e = (refl, e)
 passed false h o n e = let z : _≡_ {A = ℕ} 0 1 = cc in let y : ⊥ = omega arith in absurd y
 
-both : (a b : Bool) → a && b ≡ true → (a ≡ true) × (b ≡ true)
-both true b e = (refl, e)
-both false b e = let z : _≡_ {A = ℕ} 0 1 = cc in let y : ⊥ = omega arith in absurd y
-
 -- a good head states its length, which the data has
 pub head-good : (least : ℕ) (hs ds : List ℕ) (n : ℕ) → headJudged least hs ds ≡ Good n → (n ≡ headLength hs) × (headLength hs ≤ length ds)
 unfolding headJudged dataJudged goodContent
@@ -144,7 +140,7 @@ head-good least hs ds n e =
     let b = passed (knownKind (getD hs 7 0)) _ 7 n (a .1) in
     let c = passed (leb (headLength hs) (lengthLimit kind)) _ 8 n (b .1) in
     let d = passed (goodContent kind (headLength hs) ds) _ (8 + length (encoded (headLength hs))) n (c .1) in
-    let f = both (leb (headLength hs) (length ds)) (acceptable kind (take (headLength hs) ds)) (d .0) in
+    let f = and-eq-true-iff (leb (headLength hs) (length ds)) (acceptable kind (take (headLength hs) ds)) .0 (d .0) in
     let g : Good (headLength hs) ≡ Good n = d .1 in
     let m : headLength hs ≡ n = cc in
     (sym m, leb-true (headLength hs) (length ds) (f .0))

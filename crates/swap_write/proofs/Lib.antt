@@ -1,7 +1,8 @@
+pub mod Accepted
 pub mod Body
 mod Headed
 mod Judged
-mod Laid
+pub mod Laid
 mod Outcomes
 pub mod Records
 mod Sized

@@ -24,11 +24,11 @@ module _ (r : Record) (hs : List ℕ) (sound : Sound r) where
   unfolding headOf
   from-tab = rw append-assoc (drop-at (r .ads) _ 6 (sound .address))
 
-  stated : headLength (headOf r ++ hs) ≡ length (r .content)
+  pub stated : headLength (headOf r ++ hs) ≡ length (r .content)
   unfolding headLength
   stated = rw (← getD-drop 6 (headOf r ++ hs) 2 0, ← getD-drop 6 (headOf r ++ hs) 3 0, from-tab) (omega arith)
 
-  ten : length (headOf r) ≡ 10
+  pub ten : length (headOf r) ≡ 10
   unfolding headOf
   ten = simp length-append (omega (arith, sound .address))
 
@@ -61,7 +61,7 @@ body-records (Each.more {r = r} {rs = rs} p s) =
     )
     (sym (append-assoc (r .ads ++ r .tab ∷ r .kind ∷ encoded n) (r .content) (recordsOctets rs)))
 
-heads-long : {rs : List Record} → Each Sound rs → length (headsOf rs) ≡ 10 * length rs
+pub heads-long : {rs : List Record} → Each Sound rs → length (headsOf rs) ≡ 10 * length rs
 unfolding headsOf
 heads-long Each.none = refl
 heads-long (Each.more {r = r} {rs = rs} p s) = rw length-append (omega (arith, ten r (headsOf rs) p, heads-long s))

@@ -1,5 +1,7 @@
 // Writing a swap file from records in two lent slices: heads of ten octets, and their data one after the other (01, Swap file).
 ghost use mathlib.Core.Path.{_≡_};
+ghost use Rattle.swap.specs.Reading.{answerOfVerdict, verdictOf};
+ghost use Rattle.swap_write.specs.Heads.{fileOf};
 ghost use Rattle.swap_write.specs.Writing.{answerOfWritten, writing};
 
 pub mod judge;
@@ -15,6 +17,17 @@ pub enum Written {
     Whole(Octets),
     Fault(Octets),
     Short,
+}
+
+// The reader's verdict on the file that would be written.
+pub fn verdict(heads: &[u8], contents: &[u8]) -> Verdict
+    ensures { λ r. ⌜ answerOfVerdict r ≡ verdictOf (fileOf (now (heads .entry)) (now (contents .entry))) ⌝ }
+{
+    let size = size::file_size(heads, contents);
+    let Size::Within(_) = size else {
+        return Verdict::Fault(Octets(65536));
+    };
+    judge::judge(heads, contents)
 }
 
 // Writes the file at the front of a buffer; a refusal leaves the buffer as it is.

@@ -20,7 +20,7 @@ use Rattle.tool.specs.declared.Answer.the-variants as answer
 use Rattle.tool.specs.Parts.{Response, responding}
 use Rattle.tool.specs.Soundness.{sound}
 use Rattle.tool.specs.Requests.{commandOf, addressable, limitOf, idle, admission, admitted}
-use Rattle.tool.proofs.Impossible.{impossible}
+use Rattle.octets.proofs.Impossible.{impossible}
 
 pub record Admits (t : Tool) (r : Request) (ads d : List ℕ) (room : ℕ) : Type 0 where
   pub six : length ads ≡ 6

@@ -1,6 +1,6 @@
 -- AUT is sent only after an ECH with NA1 enciphered and with the TAB and DATA sent.
 use Prim.Native.Nat.{ℕ}
-use mathlib.Core.Path.{_≡_, refl, ap}
+use mathlib.Core.Path.{_≡_, ap}
 use mathlib.Core.Bool.{true}
 use mathlib.Core.List.{List, []}
 use mathlib.Core.Logic.{_⊎_, inl, inr}
@@ -8,13 +8,13 @@ use Rattle.frame.specs.declared.codes.Command.{Command}
 use Rattle.frame.specs.declared.codes.Command.the-variants.{Aut}
 use Rattle.frame.specs.Content.{fieldsOf, dataOf}
 use Rattle.frame.specs.Building.{octetsOf}
-use Rattle.receiver.specs.Receiving.{Reception, Complete, Step, onOctet}
+use Rattle.receiver.specs.Receiving.{Complete, onOctet}
 use Rattle.receiver.specs.Receiver.{receptionOf}
 use Rattle.tool.specs.declared.Tool.{Tool}
 use Rattle.tool.specs.Parts.{Response}
 use Rattle.tool.specs.Replies.{authentication, expected}
-use Rattle.tool.specs.Events.{afterStep, afterOctet}
-use Rattle.tool.proofs.Endings.{Runs, Echo, Ends, quiet, well, ill, echoed}
+use Rattle.tool.specs.Events.{afterOctet}
+use Rattle.tool.proofs.Endings.{Echo, quiet, well, ill, echoed}
 use Rattle.tool.proofs.Courses.{nothing, dropped, framed, Takes, untaken, heard, takes-octet}
 
 -- The octet completes an ECH from the station of the request for its ADP, ZA1 = DES(Ki, NA1), TAB and DATA are those sent, and the frame sent

@@ -1,31 +1,27 @@
 -- What each call comes to. The other laws of this crate go by these few cases.
-use Prim.Native.Nat.{ℕ, _≤_}
-use mathlib.Core.Path.{_≡_, refl, sym, ap, _∙_}
+use Prim.Native.Nat.{ℕ}
+use mathlib.Core.Path.{_≡_, refl}
 use mathlib.Core.Bool.{Bool, true, false, cond, _&&_}
-use mathlib.Core.List.{List, []}
+use mathlib.Core.List.{List}
 use lib.Dec.{eqb, leb}
 use lib.ListN.{length}
-use borrow.Author.Tests.{leb-true}
 use Rattle.frame.specs.declared.codes.Command.{Command}
 use Rattle.frame.specs.declared.checks.Fault.{Fault}
-use Rattle.frame.specs.declared.content.Fields.{Fields}
 use Rattle.frame.specs.Content.{fieldsOf, dataOf}
-use Rattle.receiver.specs.declared.Receiver.{Receiver}
 use Rattle.receiver.specs.Receiving.{Reception, Awaiting, Skipping, Partial, Outcome, Silent, Dropped, Complete, Step, onOctet, onGap}
 use Rattle.receiver.specs.Receiver.{receptionOf, holding}
 use Rattle.wake.specs.declared.Request.{Request}
 use Rattle.tool.specs.declared.Tool.{Tool}
 use Rattle.tool.specs.declared.Refusal.{Refusal}
 use Rattle.tool.specs.declared.Refusal.the-variants.{BadFrame, WrongAddress, TooLong, BrokenRule, SessionEnded, Busy, WrongLength}
-use Rattle.tool.specs.declared.Answer.{Answer}
-use Rattle.tool.specs.declared.Answer.the-variants.{Nothing, Refused}
+use Rattle.tool.specs.declared.Answer.the-variants.{Refused}
 use Rattle.tool.specs.declared.requests.Admission.{Admission}
 use Rattle.tool.specs.declared.requests.Admission.the-variants as admission
 use Rattle.tool.specs.Parts.{withReceiver, Response, responding, silent, over}
 use Rattle.tool.specs.Soundness.{sound}
-use Rattle.tool.specs.Requests.{addressable, limitOf, idle, admission, admitted, sending}
+use Rattle.tool.specs.Requests.{addressable, limitOf, idle, admission, admitted}
 use Rattle.tool.specs.Events.{afterStep, heardAs, heardStep, hearing, afterOctet, afterGap, afterSessionEnd}
-use Rattle.tool.proofs.Impossible.{impossible}
+use Rattle.octets.proofs.Impossible.{impossible}
 use Rattle.tool.proofs.Admission.{Admits, admits}
 use Rattle.tool.proofs.Endings.{Ends, frame-ends}
 

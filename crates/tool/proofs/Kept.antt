@@ -10,7 +10,7 @@ use Rattle.frame.specs.declared.codes.Command.{Command}
 use Rattle.frame.specs.declared.checks.Fault.{Fault}
 use Rattle.frame.specs.declared.checks.Fault.the-variants.{OutOfRange, Crc, Cut, Unknown, Length}
 use Rattle.frame.specs.declared.content.Fields.{Fields}
-use Rattle.receiver.specs.Receiving.{Reception, Awaiting, Step, onOctet, onGap}
+use Rattle.receiver.specs.Receiving.{Reception, Awaiting, Step}
 use Rattle.receiver.specs.Receiver.{receptionOf}
 use Rattle.receiver.proofs.Soundness.{fresh-sound, reception-sound, holding-sound, holding-long}
 use Rattle.receiver.proofs.Follows.{Keeps, octet-keeps, gap-keeps}
@@ -27,7 +27,7 @@ use Rattle.tool.specs.Requests.{programming, afterRead, afterTransfer, a
 use Rattle.tool.specs.Events.{afterStep, Call, Read, Transfer, Program, Broadcast, Initialise, Octet, Gap, SessionEnd, after}
 use Rattle.tool.specs.Leaving.{endsRequest}
 use Rattle.tool.specs.Lists.{leftAfter}
-use Rattle.tool.proofs.Impossible.{impossible}
+use Rattle.octets.proofs.Impossible.{impossible}
 use Rattle.tool.proofs.Sound.{sound-test}
 use Rattle.tool.proofs.Admission.{Admits}
 use Rattle.tool.proofs.Endings.{Ends, quiet, well, ill, echoed}

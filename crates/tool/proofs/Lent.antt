@@ -1,11 +1,11 @@
 -- A request is sent with the address as it was lent, and a programming request keeps its DATA: an admitted request has six octets of address
 -- and DATA within its limit.
 use Prim.Native.Nat.{ℕ, _≤_}
-use mathlib.Core.Path.{_≡_, refl, sym, ap, _∙_}
+use mathlib.Core.Path.{_≡_, ap, _∙_}
 use mathlib.Core.List.{List}
 use lib.ListN.{length, replicate}
-use Rattle.octets.specs.Splice.{spliced, fronted}
-use Rattle.octets.proofs.Splice.{spliced-whole, spliced-front}
+use Rattle.octets.specs.Splice.{spliced}
+use Rattle.octets.proofs.Splice.{spliced-whole}
 use Rattle.frame.specs.declared.content.Fields.{Fields}
 use Rattle.wake.specs.declared.Request.{Request}
 use Rattle.tool.specs.declared.Tool.{Tool}

@@ -1,4 +1,3 @@
-mod Impossible
 pub mod Lengths
 pub mod Sound
 mod Gives

@@ -20,16 +20,16 @@ use Rattle.receiver.specs.declared.Event.the-variants.{Nothing, Bad, Good, Refu
 use Rattle.receiver.specs.declared.Received.{Received}
 use Rattle.receiver.specs.Receiving.{Reception, Awaiting, Skipping, Partial, Outcome, Silent, Dropped, Complete, Step, onOctet, onGap}
 use Rattle.receiver.specs.Receiver as receiver
-use Rattle.receiver.specs.Receiver.{receptionOf, eventOf, frameOf, given}
+use Rattle.receiver.specs.Receiver.{receptionOf, eventOf, given}
 use Rattle.receiver.proofs.Follows.{octet-follows}
 use Rattle.receiver.proofs.Arrival.{Handed, good-handed}
 use Rattle.tool.specs.declared.Tool.{Tool}
 use Rattle.tool.specs.declared.Refusal.the-variants.{BadFrame}
 use Rattle.tool.specs.declared.Answer.the-variants as answer
-use Rattle.tool.specs.Parts.{withReceiver, Response, responding, silent}
+use Rattle.tool.specs.Parts.{withReceiver, responding, silent}
 use Rattle.tool.specs.Replies.{onFrame}
 use Rattle.tool.specs.Events.{afterStep, heardAs, heardStep, hearing}
-use Rattle.tool.proofs.Impossible.{impossible}
+use Rattle.octets.proofs.Impossible.{impossible}
 
 -- DATA of any command
 most-data : (c : Command) → layoutOf c .most .0 ≤ 116

@@ -8,8 +8,7 @@ use lib.ListN.{length}
 use Rattle.frame.specs.declared.codes.Command.{Command}
 use Rattle.frame.specs.declared.content.Fields.{Fields}
 use Rattle.receiver.specs.declared.Receiver.{Receiver}
-use Rattle.receiver.specs.Receiving.{Reception, Outcome, Step}
-use Rattle.receiver.specs.Receiver.{receptionOf}
+use Rattle.receiver.specs.Receiving.{Reception, Step}
 use Rattle.wake.specs.declared.Request.{Request}
 use Rattle.tool.specs.declared.Phase.the-variants.{Idle}
 use Rattle.tool.specs.declared.Tool.{Tool}
@@ -17,13 +16,13 @@ use Rattle.tool.specs.declared.Refusal.{Refusal}
 use Rattle.tool.specs.declared.Refusal.the-variants.{BadFrame, WrongAddress, TooLong, BrokenRule, WrongCipher, WrongEcho, SessionEnded, Busy, WrongLength, Unexpected, Rejected}
 use Rattle.tool.specs.declared.Answer.{Answer}
 use Rattle.tool.specs.declared.Answer.the-variants.{Nothing, Sent, Done, Refused}
-use Rattle.tool.specs.Parts.{inPhase, withReceiver, Response, responding, silent, over}
-use Rattle.tool.specs.Requests.{fieldsTo, zero8, sending, programming, afterRead, afterTransfer, afterProgram, afterBroadcast, afterInitialise}
-use Rattle.tool.specs.Events.{afterStep, Call, Read, Transfer, Program, Broadcast, Initialise, Octet, Gap, SessionEnd, after}
+use Rattle.tool.specs.Parts.{inPhase, withReceiver, Response, responding}
+use Rattle.tool.specs.Requests.{programming, afterRead, afterTransfer, afterProgram, afterBroadcast, afterInitialise}
+use Rattle.tool.specs.Events.{Call, Read, Transfer, Program, Broadcast, Initialise, Octet, Gap, SessionEnd, after}
 use Rattle.tool.specs.Leaving.{endsRequest, leftBy}
-use Rattle.tool.proofs.Impossible.{impossible}
+use Rattle.octets.proofs.Impossible.{impossible}
 use Rattle.tool.proofs.Endings.{Ends, quiet, well, ill, echoed}
-use Rattle.tool.proofs.Courses.{Stays, address, amount, busy, lengths, broken, Asks, unasked, sent, asks, Hears, nothing, dropped, framed, Takes, untaken, heard, takes-octet, takes-gap, emptied, Closes, unclosed, still, ended, closes}
+use Rattle.tool.proofs.Courses.{Stays, address, amount, busy, lengths, broken, Asks, unasked, sent, asks, nothing, dropped, framed, Takes, untaken, heard, takes-octet, takes-gap, Closes, unclosed, still, ended, closes}
 
 -- where the response r of the tool t is a refusal, it leaves what 01's table says, sends nothing and hands nothing out
 abbrev Leaves : Tool → Response → Type 0

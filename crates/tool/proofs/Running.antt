@@ -1,12 +1,10 @@
 -- When a request runs: after one that was sent and waits, and not after one that is done; with none running, frames are dropped.
 use Prim.Native.Nat.{ℕ}
-use mathlib.Core.Path.{_≡_, refl, sym, ap, _∙_}
+use mathlib.Core.Path.{_≡_, refl, sym, _∙_}
 use mathlib.Core.Bool.{Bool, true, false, cond, _&&_}
 use mathlib.Core.List.{List, []}
 use lib.Dec.{eqb}
 use lib.ListN.{length}
-use Rattle.frame.specs.declared.codes.Command.{Command}
-use Rattle.frame.specs.declared.content.Fields.{Fields}
 use Rattle.receiver.specs.declared.Receiver.{Receiver}
 use Rattle.receiver.specs.Receiving.{Reception, Step, onOctet}
 use Rattle.wake.specs.declared.Request.{Request}
@@ -18,9 +16,9 @@ use Rattle.tool.specs.declared.Answer.the-variants.{Nothing, Sent, Done,
 use Rattle.tool.specs.Parts.{withReceiver, Response, responding}
 use Rattle.tool.specs.Requests.{idle, programming, afterRead, afterTransfer, afterProgram, afterBroadcast, afterInitialise}
 use Rattle.tool.specs.Events.{Call, Read, Transfer, Program, Broadcast, Initialise, Octet, Gap, SessionEnd, after}
-use Rattle.tool.proofs.Impossible.{impossible}
+use Rattle.octets.proofs.Impossible.{impossible}
 use Rattle.tool.proofs.Admission.{Admits}
-use Rattle.tool.proofs.Endings.{Ends, quiet, well, ill, echoed}
+use Rattle.tool.proofs.Endings.{quiet, well, ill, echoed}
 use Rattle.tool.proofs.Courses.{Asks, unasked, sent, asks, nothing, dropped, framed, Takes, untaken, heard, takes-octet, takes-gap, Closes, unclosed, still, ended, closes}
 
 -- what an answer says of the request: it waits for a reply, or it has ended

@@ -1,13 +1,12 @@
 -- The test for 12 says what `Sound` says.
 use mathlib.Core.Path.{_≡_, refl}
 use mathlib.Core.Bool.{Bool, true, false, _&&_}
-use lib.Dec.{leb}
 use borrow.Author.Tests.{leb-true, le-leb}
 use Rattle.receiver.specs.Receiver as receiver
 use Rattle.receiver.proofs.Soundness as receiver-soundness
 use Rattle.tool.specs.declared.Tool.{Tool}
-use Rattle.tool.specs.Soundness.{sentLength, fitting, sound, Sound}
-use Rattle.tool.proofs.Impossible.{impossible}
+use Rattle.tool.specs.Soundness.{fitting, sound, Sound}
+use Rattle.octets.proofs.Impossible.{impossible}
 
 pub test-sound : (t : Tool) → sound t ≡ true → Sound t
 unfolding sound

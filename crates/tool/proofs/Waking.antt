@@ -1,6 +1,6 @@
 -- The claim on wake-ups over every list of calls: each request has one exactly where 01 says, read off the requests and endings before it.
 use Prim.Native.Nat.{ℕ}
-use mathlib.Core.Path.{_≡_, refl, sym, ap, _∙_}
+use mathlib.Core.Path.{_≡_, refl, ap}
 use mathlib.Core.Bool.{Bool, true, false, cond, not, _&&_}
 use mathlib.Core.List.{List, [], _∷_}
 use lib.Dec.{eqb}
@@ -11,25 +11,21 @@ use Rattle.receiver.specs.Receiving.{onOctet, onGap}
 use Rattle.receiver.specs.Receiver.{receptionOf}
 use Rattle.wake.specs.declared.Request.{Request}
 use Rattle.wake.specs.declared.Request.the-variants.{Enq, Trf, Rec, Trb, Ib}
-use Rattle.wake.specs.declared.WakeUps.{WakeUps}
-use Rattle.wake.specs.Rule.{wakeBefore, asked, succeeded}
-use Rattle.wake.specs.Rule as wake
-use Rattle.wake.specs.Clauses.{Entry, Rightly, isAgn}
+use Rattle.wake.specs.Rule.{asked, succeeded}
+use Rattle.wake.specs.Clauses.{Entry, Rightly}
 use Rattle.wake.specs.Lists.{entered, done}
 use Rattle.wake.proofs.Memory.{Follows, fresh-follows, wakes-when-due, asked-follows, succeeded-follows}
 use Rattle.tool.specs.declared.Tool.{Tool}
-use Rattle.tool.specs.declared.Refusal.{Refusal}
 use Rattle.tool.specs.declared.Refusal.the-variants.{WrongLength}
-use Rattle.tool.specs.declared.Answer.{Answer}
-use Rattle.tool.specs.declared.Answer.the-variants.{Nothing, Sent, Done, Refused}
+use Rattle.tool.specs.declared.Answer.the-variants.{Done, Refused}
 use Rattle.tool.specs.Parts.{fresh, Response, responding}
-use Rattle.tool.specs.Requests.{idle, sending, programming, afterRead, afterTransfer, afterProgram, afterBroadcast, afterInitialise}
-use Rattle.tool.specs.Events.{afterStep, Call, Read, Transfer, Program, Broadcast, Initialise, Octet, Gap, SessionEnd, after}
-use Rattle.tool.specs.Lists.{entry, launched, closed, noted, told}
-use Rattle.tool.proofs.Impossible.{impossible}
+use Rattle.tool.specs.Requests.{idle, programming, afterRead, afterTransfer, afterProgram, afterBroadcast, afterInitialise}
+use Rattle.tool.specs.Events.{Call, Read, Transfer, Program, Broadcast, Initialise, Octet, Gap, SessionEnd, after}
+use Rattle.tool.specs.Lists.{launched, closed, noted, told}
+use Rattle.octets.proofs.Impossible.{impossible}
 use Rattle.tool.proofs.Admission.{Admits}
 use Rattle.tool.proofs.Endings.{Ends, quiet, well, ill, echoed}
-use Rattle.tool.proofs.Courses.{Asks, unasked, sent, asks, nothing, dropped, framed, Takes, untaken, heard, takes-octet, takes-gap, gap-completes-none, emptied, Closes, unclosed, still, ended, closes}
+use Rattle.tool.proofs.Courses.{Asks, unasked, sent, asks, nothing, dropped, framed, Takes, untaken, heard, takes-octet, takes-gap, gap-completes-none, Closes, unclosed, still, ended, closes}
 
 -- the latest request has not ended yet
 abbrev unended : List Entry → Bool

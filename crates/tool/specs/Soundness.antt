@@ -1,6 +1,6 @@
 -- The tools that no call refuses with 12 (01, The card, which speaks of tools too).
 use Prim.Native.Nat.{ℕ, _≤_}
-use mathlib.Core.Bool.{Bool, true, false, _&&_}
+use mathlib.Core.Bool.{Bool, _&&_}
 use lib.Dec.{leb}
 use Rattle.receiver.specs.Receiver as receiver
 use Rattle.tool.specs.declared.Phase.{Phase}

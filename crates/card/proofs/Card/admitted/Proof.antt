@@ -1,18 +1,8 @@
 -- `Card::admitted` runs setup's checks in the order of the definition.
-use Prim.Native.Nat.{ℕ}
-use mathlib.Core.Path.{_≡_, refl}
-use mathlib.Core.Bool.{Bool, true, false, not}
-use mathlib.Core.List.{List, [], _∷_}
 use borrow.Author.Needs.{needs}
 use borrow.Author.Tests.{not-true, not-false}
-use types.Run.{OneOf, miss}
-use denote.Enum.Declared.{tagOf}
-use Rattle.records.proofs.Answer.{the-type}
-use Rattle.records.specs.declared.Answer.{Answer as ContentsAnswer}
-use Rattle.records.specs.declared.Answer.the-variants as contents
 use Rattle.card.specs.declared.Card.{Card}
-use Rattle.card.specs.Frames.{writeAnswer}
-use Rattle.card.specs.Setup.{refusedSetup, admittedWith, admitted}
+use Rattle.card.specs.Setup.{admittedWith, admitted}
 use Rattle.card.proofs.Card.admitted.Statement.{statement}
 use Rattle.card.proofs.Card.admitted.Tie as tie
 

@@ -2,9 +2,8 @@
 use mathlib.Core.Path.{_≡_, ap, sym, _∙_}
 use borrow.Author.Needs.{needs}
 use Rattle.receiver.specs.declared.Received.{Received}
-use Rattle.receiver.specs.declared.Event.the-variants as event
 use Rattle.receiver.specs.Receiving.{onOctet}
-use Rattle.receiver.specs.Receiver.{receptionOf, given, afterOctet}
+use Rattle.receiver.specs.Receiver.{given, afterOctet}
 use Rattle.receiver.proofs.Follows.{Follows, octet-follows}
 use Rattle.receiver.proofs.Arrival.{Handed, good-handed}
 use Rattle.card.specs.Events.{heard}

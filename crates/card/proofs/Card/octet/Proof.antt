@@ -1,5 +1,5 @@
 -- `Card::octet` tests what is lent (17), then the card (12).
-use mathlib.Core.Path.{_≡_, refl, sym, _∙_}
+use mathlib.Core.Path.{refl, sym, _∙_}
 use borrow.Author.Needs.{needs}
 use borrow.Author.Tests.{not-false}
 use Rattle.card.proofs.Soundness.{sound-means}

@@ -1,6 +1,5 @@
 -- `Card::setup` tests the lengths; an address of six octets and a key of eight are then copied whole.
-use mathlib.Core.Path.{_≡_}
-use lib.ListN.{length, replicate}
+use lib.ListN.{replicate}
 use borrow.Author.Needs.{needs}
 use borrow.Author.Tests.{eq-eqb, ne-eqb}
 use Rattle.octets.proofs.Splice.{spliced-whole}

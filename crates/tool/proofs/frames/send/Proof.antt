@@ -1,8 +1,8 @@
 -- `send` builds a frame that fits: the builder does not refuse.
 use Rattle.frame.proofs.RoundTrip.{built-made}
-use Rattle.tool.proofs.Impossible.{impossible}
+use Rattle.octets.proofs.Impossible.{impossible}
 use denote.Ref.{now}
-use mathlib.Core.Path.{sym, ap, _∙_, _≡_}
+use mathlib.Core.Path.{sym, ap, _∙_}
 use borrow.Author.Needs.{needs}
 use Rattle.tool.proofs.frames.send.Statement.{statement}
 use Rattle.tool.proofs.frames.send.Tie as tie

@@ -1,7 +1,6 @@
 -- `no_contents` has no DATA before the zeros.
 use Rattle.octets.specs.Splice.{fronted}
 use mathlib.Core.Path.{refl}
-use borrow.Author.Needs.{needs}
 use Rattle.tool.proofs.parts.no_contents.Statement.{statement}
 use Rattle.tool.proofs.parts.no_contents.Tie as tie
 

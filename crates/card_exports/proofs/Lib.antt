@@ -1,0 +1,5 @@
+mod Calls
+mod Loans
+mod Judging
+mod Finding
+pub mod Accepting

@@ -1,0 +1,69 @@
+-- The octet call: 17, 12, then the method by value between decoding and encoding.
+use mathlib.Core.Path.{sym, _∙_}
+use borrow.Author.Tests.{not-true, not-false}
+use Rattle.card_exports.specs.Outcome.{octetOutcome}
+use Rattle.card_exports.proofs.Calls.{unmarked}
+use Rattle.card_exports.proofs.Loans.{octet-replied}
+use borrow.Author.Needs.{needs}
+use Rattle.card_exports.proofs.stepping.propolisk_card_step_octet.Statement.{statement}
+use Rattle.card_exports.proofs.stepping.propolisk_card_step_octet.Tie as tie
+
+loan-fits-requires : tie.Need-loan-fits-requires
+loan-fits-requires c κs = search needs
+
+returns : tie.Need-returns
+unfolding octetOutcome
+returns c = rw (sym (c .before .loan-fits .ensures) ∙ not-true _ (c .if1 .taken))
+
+marks-in-use-requires : tie.Need-marks-in-use-requires
+marks-in-use-requires c κs = search needs
+
+same-length : tie.Need-same-length
+same-length c = search needs
+
+returns-2 : tie.Need-returns-2
+unfolding octetOutcome
+returns-2 c =
+    let t = c .before .before .before in
+    rw (sym (t .before .loan-fits .ensures) ∙ not-false _ (t .if1 .left), unmarked _ (sym (c .before .marks-in-use .ensures) ∙ not-true _ (c .if2 .taken)))
+
+decode-requires : tie.Need-decode-requires
+decode-requires c κs = search needs
+
+octet-requires : tie.Need-octet-requires
+octet-requires c κs = search needs
+
+finish-requires : tie.Need-finish-requires
+finish-requires c κs = search needs
+
+same-length-2 : tie.Need-same-length-2
+same-length-2 c = search needs
+
+same-length-3 : tie.Need-same-length-3
+same-length-3 c = search needs
+
+returns-3 : tie.Need-returns-3
+returns-3 c =
+    let f = c .before .before in
+    let s = f .before .before .before .before .before .before in
+    let d = s .before .before in
+    let t = d .before .before in
+    let l = t .before .before .before in
+    octet-replied _ _ _ _ (sym (l .before .loan-fits .ensures) ∙ not-false _ (l .if1 .left)) (sym (t .before .marks-in-use .ensures) ∙ not-false _ (t .if2 .left))
+    _ (s .octet .result) (rw (← d .decode .ensures) (s .octet .ensures)) _ _ (f .finish .ensures)
+
+pub propolisk-card-step-octet-spec : {M : Type 1} → statement M
+propolisk-card-step-octet-spec =
+    tie.close
+    (tie.spec
+    loan-fits-requires
+    returns
+    marks-in-use-requires
+    same-length
+    returns-2
+    decode-requires
+    octet-requires
+    finish-requires
+    same-length-2
+    same-length-3
+    returns-3)

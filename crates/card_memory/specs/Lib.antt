@@ -1,0 +1,4 @@
+pub mod Decoding
+pub mod Encoding
+pub mod Marks
+pub mod Setup

@@ -1,0 +1,77 @@
+-- `compare_files` is safe and ends: the records that are left fall by one a turn.
+use borrow.Author.Needs.{needs}
+use Rattle.day.proofs.hours.compare_files.Statement.{statement}
+use Rattle.day.proofs.hours.compare_files.Tie as tie
+
+abbrev Inv-loop : tie.InvT-loop
+Inv-loop old new old-cursor₀ new-cursor₀ left₀ old-cursor new-cursor left = Unit {0}
+
+abbrev μ-loop : tie.MeasureT-loop
+μ-loop old new old-cursor₀ new-cursor₀ left₀ old-cursor new-cursor left = left
+
+start-requires : tie.Need-start-requires Inv-loop μ-loop
+start-requires c κs = search needs
+
+start-requires-2 : tie.Need-start-requires-2 Inv-loop μ-loop
+start-requires-2 c κs = search needs
+
+count-of-requires : tie.Need-count-of-requires Inv-loop μ-loop
+count-of-requires c κs = search needs
+
+loop-holds : tie.Need-loop-holds Inv-loop μ-loop
+loop-holds c = search needs
+
+next-for-requires : tie.Need-next-for-requires Inv-loop μ-loop
+next-for-requires c κs = search needs
+
+enum-known-old-next : tie.Need-enum-known-old-next Inv-loop μ-loop
+enum-known-old-next c = search needs
+
+returns : tie.Need-returns Inv-loop μ-loop
+returns c = search needs
+
+next-for-requires-2 : tie.Need-next-for-requires-2 Inv-loop μ-loop
+next-for-requires-2 c κs = search needs
+
+enum-known-new-next : tie.Need-enum-known-new-next Inv-loop μ-loop
+enum-known-new-next c = search needs
+
+returns-2 : tie.Need-returns-2 Inv-loop μ-loop
+returns-2 c = search needs
+
+print-beside-requires : tie.Need-print-beside-requires Inv-loop μ-loop
+print-beside-requires c κs = search needs
+
+sub-left : tie.Need-sub-left Inv-loop μ-loop
+sub-left c = search needs
+
+loop-less : tie.Need-loop-less Inv-loop μ-loop
+loop-less c = search needs
+
+loop-again : tie.Need-loop-again Inv-loop μ-loop
+loop-again c = search needs
+
+returns-3 : tie.Need-returns-3 Inv-loop μ-loop
+returns-3 c = search needs
+
+pub compare-files-spec : {M : Type 1} → statement M
+compare-files-spec =
+    tie.close
+    (tie.spec
+    Inv-loop
+    μ-loop
+    start-requires
+    start-requires-2
+    count-of-requires
+    loop-holds
+    next-for-requires
+    enum-known-old-next
+    returns
+    next-for-requires-2
+    enum-known-new-next
+    returns-2
+    print-beside-requires
+    sub-left
+    loop-less
+    loop-again
+    returns-3)

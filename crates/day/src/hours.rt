@@ -1,0 +1,179 @@
+// What is done with the records: read, fitted and programmed, and laid side by side.
+use crate::exchange::Bus;
+use crate::exchange::exchange;
+use crate::gather::Gathered;
+use crate::listing::count_of;
+use crate::listing::print_record;
+use crate::primary::Primary;
+use crate::primary::Stage;
+use crate::stations::FLAT;
+use crate::stations::FLAT_KEY;
+use crate::stations::is_label;
+use crate::stations::new_room;
+use crate::text::print;
+use crate::text::print_count;
+use crate::text::print_field;
+use crate::wire::Damage;
+use swap::Entry;
+use swap::Kind;
+use swap::Next;
+use swap_station::next_for;
+use tool::Contents;
+
+// A key that the fitter types wrong.
+const WRONG_KEY: [u8; 8] = [0x0E, 0x32, 0x92, 0x32, 0xEA, 0x6D, 0x0D, 0x73];
+
+// The bus after readings, and the records that were read.
+pub(crate) struct Readings {
+    pub(crate) bus: Bus,
+    pub(crate) gathered: Gathered,
+}
+
+// Reads the records of a station that these TABs name.
+pub(crate) fn read_all(readings: Readings, ads: [u8; 6], tabs: &[u8], damage: Damage) -> Readings {
+    let mut bus = readings.bus;
+    let mut gathered = readings.gathered;
+    let mut i = 0;
+    while i < tabs.len() {
+        let tab = tabs[i];
+        i += 1;
+        let cards = bus.cards;
+        let primary = bus.primary;
+        bus = exchange(cards, primary.read(ads, tab), damage);
+        let heard = bus.primary;
+        gathered = taken(gathered, ads, tab, heard);
+    }
+    Readings {
+        bus: bus,
+        gathered: gathered,
+    }
+}
+
+// One record more, if it was read.
+fn taken(gathered: Gathered, ads: [u8; 6], tab: u8, primary: Primary) -> Gathered {
+    let stage = primary.stage;
+    let Stage::Done = stage else {
+        return gathered;
+    };
+    let contents = primary.contents;
+    print_read(tab, contents);
+    gathered.with(ads, tab, kind_of(tab), contents)
+}
+
+fn kind_of(tab: u8) -> Kind {
+    if is_label(tab) {
+        Kind::Label
+    } else {
+        Kind::Raw
+    }
+}
+
+fn print_read(tab: u8, contents: Contents) {
+    let octets = contents.octets;
+    let length = contents.length;
+    let data = octets::part(&octets, 0, length.0);
+    print_field(b"read  TAB ", &[tab]);
+    print_record(b" ", kind_of(tab), data, b"\n");
+}
+
+// Programs the flat's new card from the file's records for it, one after the other. The holder's label is tried with a wrong key first.
+pub(crate) fn program_all(bus: Bus, file: &[u8]) -> Bus {
+    let mut now = bus;
+    let mut cursor = swap::cursor::start(file);
+    let mut left = count_of(file);
+    while 0 < left {
+        let next = next_for(cursor, file, FLAT);
+        let Next::Record(entry, after) = next else {
+            return now;
+        };
+        now = program_entry(now, entry.tab, fitted(file, entry));
+        cursor = after;
+        left -= 1;
+    }
+    now
+}
+
+fn program_entry(bus: Bus, tab: u8, data: &[u8]) -> Bus {
+    if tab == 0x0A {
+        return program(program(bus, tab, data, WRONG_KEY), tab, data, FLAT_KEY);
+    }
+    program(bus, tab, data, FLAT_KEY)
+}
+
+fn program(bus: Bus, tab: u8, data: &[u8], key: [u8; 8]) -> Bus {
+    let cards = bus.cards;
+    let primary = bus.primary;
+    let next = exchange(cards, primary.program(FLAT, tab, data, key), Damage::None);
+    let heard = next.primary;
+    print_programmed(tab, heard);
+    next
+}
+
+fn print_programmed(tab: u8, primary: Primary) {
+    let stage = primary.stage;
+    if let Stage::Done = stage {
+        print_field(b"done  TAB ", &[tab]);
+        print(b" programmed\n");
+    }
+}
+
+// A record's data; a label is cut to the limits of its new record.
+fn fitted(file: &[u8], entry: Entry) -> &[u8] {
+    let data = swap::cursor::content(file, entry);
+    let kind = entry.kind;
+    let Kind::Label = kind else {
+        return data;
+    };
+    let room = new_room(entry.tab);
+    let octets = room.octets;
+    let characters = room.characters;
+    let kept = label::kept(data, octets, characters);
+    print_fit(entry.tab, data, kept);
+    kept
+}
+
+fn print_fit(tab: u8, old: &[u8], kept: &[u8]) {
+    print_field(b"fit   TAB ", &[tab]);
+    print_record(b" ", Kind::Label, old, b" within ");
+    print_room(tab);
+    print_record(b": ", Kind::Label, kept, b"\n");
+}
+
+fn print_room(tab: u8) {
+    let room = new_room(tab);
+    let octets = room.octets;
+    let characters = room.characters;
+    print_count(b"", octets.0);
+    print_count(b" and ", characters.0);
+}
+
+// The flat's records of two files side by side.
+pub(crate) fn compare_files(old: &[u8], new: &[u8]) {
+    let mut old_cursor = swap::cursor::start(old);
+    let mut new_cursor = swap::cursor::start(new);
+    let mut left = count_of(old);
+    while 0 < left {
+        let old_next = next_for(old_cursor, old, FLAT);
+        let Next::Record(old_entry, old_after) = old_next else {
+            return;
+        };
+        let new_next = next_for(new_cursor, new, FLAT);
+        let Next::Record(new_entry, new_after) = new_next else {
+            return;
+        };
+        print_beside(old, old_entry, new, new_entry);
+        old_cursor = old_after;
+        new_cursor = new_after;
+        left -= 1;
+    }
+}
+
+fn print_beside(old: &[u8], old_entry: Entry, new: &[u8], new_entry: Entry) {
+    let old_kind = old_entry.kind;
+    let new_kind = new_entry.kind;
+    let old_data = swap::cursor::content(old, old_entry);
+    let new_data = swap::cursor::content(new, new_entry);
+    print_field(b"TAB ", &[old_entry.tab]);
+    print_record(b" old ", old_kind, old_data, b"   | new ");
+    print_record(b"", new_kind, new_data, b"\n");
+}

@@ -1,0 +1,80 @@
+// Records and swap files as they are printed.
+use crate::text::print;
+use crate::text::print_count;
+use crate::text::print_field;
+use crate::text::print_wire_octets;
+use label::Text;
+use swap::Entry;
+use swap::Kind;
+use swap::Next;
+use swap::Verdict;
+
+// A swap file's octets, and a line for each of its records.
+pub(crate) fn print_file(file: &[u8]) {
+    print_count(b"file  octets ", file.len());
+    print_wire_octets(file);
+    print_entries(file);
+}
+
+fn print_entries(file: &[u8]) {
+    let mut cursor = swap::cursor::start(file);
+    let mut left = count_of(file);
+    while 0 < left {
+        let next = cursor.next(file);
+        let Next::Record(entry, after) = next else {
+            return;
+        };
+        print_entry(file, entry);
+        cursor = after;
+        left -= 1;
+    }
+}
+
+// How many records a file has; none where it is faulty.
+pub(crate) fn count_of(file: &[u8]) -> usize {
+    let verdict = swap::judge(file);
+    match verdict {
+        Verdict::Accepted(records) => records.0,
+        Verdict::Fault(_) => 0,
+    }
+}
+
+fn print_entry(file: &[u8], entry: Entry) {
+    let ads = swap::cursor::ads(file, entry);
+    let kind = entry.kind;
+    print_field(b"file  ", &ads);
+    print_field(b" TAB ", &[entry.tab]);
+    print_record(b" ", kind, swap::cursor::content(file, entry), b"\n");
+}
+
+// A record's kind, its counts, and what it holds, between two texts.
+pub(crate) fn print_record(before: &[u8], kind: Kind, data: &[u8], after: &[u8]) {
+    print(before);
+    match kind {
+        Kind::Raw => print_raw(data),
+        Kind::Label => print_label(data),
+    }
+    print(after);
+}
+
+fn print_raw(data: &[u8]) {
+    print_count(b"raw octets ", data.len());
+    print_field(b" ", data);
+}
+
+// A label's two counts and its text.
+fn print_label(data: &[u8]) {
+    let measured = label::measure(data);
+    let Text::WellFormed(characters) = measured else {
+        return;
+    };
+    print_count(b"label octets ", data.len());
+    print_count(b" characters ", characters.0);
+    print_quoted(data);
+}
+
+fn print_quoted(text: &[u8]) {
+    print(b" \"");
+    print(text);
+    print(b"\"");
+}

@@ -1,0 +1,5 @@
+mod Going
+mod FreshMemory
+mod Start
+pub mod History
+pub mod Reading

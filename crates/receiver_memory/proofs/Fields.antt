@@ -1,0 +1,36 @@
+-- What is read at an offset, and numbers as octets.
+use Prim.Native.Nat.{ℕ, _+_, _-_, _≤_, _<_}
+use mathlib.Core.Path.{_≡_, refl, _∙_}
+use mathlib.Core.Bool.{Bool, true, false}
+use mathlib.Core.List.{List}
+use native.Mathlib.Nat.{min-eq-left}
+use native.Mathlib.Omega.{arith}
+use lib.Dec.{eqb}
+use lib.ListN.{length, replicate, length-replicate}
+use Rattle.octets.specs.Part.{partOf}
+use Rattle.octets.proofs.Splice.{spliced-whole}
+use Rattle.octets.proofs.Parts.{length-part}
+use Rattle.receiver_memory.specs.Fields.{markOf, narrowed, fieldAt}
+
+-- where the memory holds the field, it is the part of the memory
+pub field-part : (n : ℕ) (m : List ℕ) (at : ℕ) → at + n ≤ length m → fieldAt n m at ≡ partOf m at (at + n)
+unfolding fieldAt
+field-part n m at h =
+    spliced-whole (replicate n 0) (partOf m at (at + n)) (length-part m at (at + n) (omega arith) h ∙ rw (length-replicate) (omega arith))
+
+pub length-field : (n : ℕ) (m : List ℕ) (at : ℕ) → at + n ≤ length m → length (fieldAt n m at) ≡ n
+length-field n m at h = rw (field-part n m at h) (length-part m at (at + n) (omega arith) h ∙ omega arith)
+
+pub mark-back : (b : Bool) → eqb (markOf b) 1 ≡ b
+mark-back true = refl
+mark-back false = refl
+
+pub mark-in-use : (b : Bool) → markOf b ≤ 1
+mark-in-use true = omega arith
+mark-in-use false = omega arith
+
+pub narrowed-fits : (n : ℕ) → n < 256 → narrowed n ≡ n
+narrowed-fits n h = min-eq-left (omega arith)
+
+pub narrowed-octet : (n : ℕ) → narrowed n < 256
+narrowed-octet n = omega arith

@@ -1,0 +1,69 @@
+-- Each way out of the calls, against the definition.
+use Prim.Native.Nat.{ℕ}
+use mathlib.Core.Path.{_≡_, refl, sym, ap, _∙_}
+use mathlib.Core.Bool.{true}
+use mathlib.Core.List.{List}
+use Rattle.label.specs.declared.Octets.{Octets}
+use Rattle.label.specs.Fitting.{Answer, given, refused}
+use Rattle.swap.specs.declared.file.Records.{Records}
+use Rattle.swap.specs.declared.item.Entry.{Entry}
+use Rattle.swap.specs.declared.cursor.Cursor.{Cursor}
+use Rattle.swap.specs.declared.cursor.Next.{Next}
+use Rattle.swap.specs.declared.cursor.Next.the-variants as next
+use Rattle.swap.specs.Record.{kindOctet}
+use Rattle.swap.specs.Reading.{swapFault}
+use Rattle.swap.specs.Cursor.{adsOf}
+use Rattle.swap_write.specs.Writing.{Writing, wrote, short, faulty}
+use Rattle.swap_list.specs.declared.RecordList.{RecordList}
+use Rattle.swap_list.specs.declared.Added.{Added}
+use Rattle.swap_list.specs.declared.Added.the-variants.{Kept, Fault}
+use Rattle.swap_list.specs.Adding.{Outcome, answerOfAdded}
+use Rattle.swap_exports.specs.Reports.{judgedAs, Shown, nothing, shown, writtenAs, countsAs, addedAs}
+
+module _ (a : Answer Records) (records offset : ℕ) where
+  pub judged-given : (c : Records) → given c ≡ a → record { number = 0; records = c .0; offset = offset } ≡ judgedAs a records offset
+  unfolding judgedAs
+  judged-given c e = rw (← e)
+
+  pub judged-refused : (n : ℕ) (o : Octets) → refused n o ≡ a → record { number = n; records = records; offset = o .0 } ≡ judgedAs a records offset
+  unfolding judgedAs
+  judged-refused n o e = rw (← e)
+
+module _ (n : Next) (s : List ℕ) (b : Shown) where
+  pub shown-end : n ≡ next.End → nothing 0 b ≡ shown n s b
+  unfolding shown
+  shown-end e = rw e
+
+  pub shown-forged : n ≡ next.Forged → nothing swapFault b ≡ shown n s b
+  unfolding shown
+  shown-forged e = rw e
+
+  pub shown-record : (entry : Entry) (after : Cursor) (its : List ℕ) (octet : ℕ) → n ≡ next.Record entry after → its ≡ adsOf s entry → octet ≡ kindOctet (entry .kind) → record { number = 0; at = after .at; left = after .left .0; found = true; ads = its; tab = entry .tab; kind = octet; from = entry .from; length = entry .length .0 } ≡ shown n s b
+  unfolding shown
+  shown-record entry after its octet e a k = rw (e, a, k)
+
+  -- the answer that was shown is the definition's
+  pub shown-same : (m : Next) (x : Shown) → x ≡ shown n s b → n ≡ m → x ≡ shown m s b
+  shown-same m x e p = e ∙ ap (λ (k : Next). shown k s b) p
+
+module _ (a : Writing) (b t : List ℕ) (length offset : ℕ) (left : b ≡ t) where
+  pub written-whole : (octets : Octets) → wrote octets ≡ a → record { number = 0; buffer = b; length = octets .0; offset = offset } ≡ writtenAs a t length offset
+  unfolding writtenAs
+  written-whole octets e = rw (← e, left)
+
+  pub written-fault : (n : ℕ) (o : Octets) → faulty n o ≡ a → record { number = n; buffer = b; length = length; offset = o .0 } ≡ writtenAs a t length offset
+  unfolding writtenAs
+  written-fault n o e = rw (← e, left)
+
+  pub written-short : (n : ℕ) → short n ≡ a → record { number = n; buffer = b; length = length; offset = offset } ≡ writtenAs a t length offset
+  unfolding writtenAs
+  written-short n e = rw (← e, left)
+
+module _ (x : Outcome) (heads contents : List ℕ) (records octets offset : ℕ) (answer : Added) (is : record { answer = answerOfAdded answer; heads = heads; contents = contents } ≡ x) where
+  pub added-kept : (list : RecordList) → answer ≡ Kept list → record { number = 0; heads = heads; contents = contents; records = list .records .0; octets = list .octets .0; offset = offset } ≡ addedAs x records octets offset
+  unfolding addedAs countsAs
+  added-kept list e = rw (← is, e)
+
+  pub added-fault : (o : Octets) → answer ≡ Fault o → record { number = swapFault; heads = heads; contents = contents; records = records; octets = octets; offset = o .0 } ≡ addedAs x records octets offset
+  unfolding addedAs countsAs
+  added-fault o e = rw (← is, e)

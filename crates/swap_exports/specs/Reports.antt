@@ -1,0 +1,88 @@
+-- What a C program gets of the swap file's calls: 01's number, and each lent cell and octet afterwards.
+use Prim.Native.Nat.{ℕ}
+use mathlib.Core.Bool.{Bool, true, false}
+use mathlib.Core.List.{List}
+use Rattle.label.specs.Fitting.{Answer, given, refused}
+use Rattle.swap.specs.declared.file.Records.{Records}
+use Rattle.swap.specs.declared.cursor.Next.{Next}
+use Rattle.swap.specs.declared.cursor.Next.the-variants as next
+use Rattle.swap.specs.Record.{kindOctet}
+use Rattle.swap.specs.Reading.{swapFault}
+use Rattle.swap.specs.Cursor.{adsOf}
+use Rattle.swap_write.specs.Writing.{Writing, wrote, short, faulty}
+use Rattle.swap_list.specs.declared.RecordList.{RecordList}
+use Rattle.swap_list.specs.Adding as list
+
+pub record Verdict : Type 0 where
+  pub number : ℕ
+  pub records : ℕ
+  pub offset : ℕ
+
+-- 0 with the count of records, or 18 with the offset; the other cell as it was
+unfoldable pub judgedAs : Answer Records → ℕ → ℕ → Verdict
+judgedAs (given count) records offset = record { number = 0; records = count .0; offset = offset }
+judgedAs (refused n o) records offset = record { number = n; records = records; offset = o .0 }
+
+-- the number and the cells of a call that asks for a record: the cursor, the mark, and where the record stands
+pub record Shown : Type 0 where
+  pub number : ℕ
+  pub at : ℕ
+  pub left : ℕ
+  pub found : Bool
+  pub ads : List ℕ
+  pub tab : ℕ
+  pub kind : ℕ
+  pub from : ℕ
+  pub length : ℕ
+
+-- the cells as they were, but for the mark
+abbrev pub nothing : ℕ → Shown → Shown
+nothing number b =
+    record { number = number; at = b .at; left = b .left; found = false; ads = b .ads; tab = b .tab; kind = b .kind; from = b .from; length = b .length }
+
+-- a record of the file s with the cursor after it; the end is 0 with no record; a cursor that is none of the file's is 18, at its own offset
+unfoldable pub shown : Next → List ℕ → Shown → Shown
+shown next.End s b = nothing 0 b
+shown next.Forged s b = nothing swapFault b
+shown (next.Record e after) s b =
+    record {
+      number = 0;
+      at = after .at;
+      left = after .left .0;
+      found = true;
+      ads = adsOf s e;
+      tab = e .tab;
+      kind = kindOctet (e .kind);
+      from = e .from;
+      length = e .length .0;
+    }
+
+pub record Written : Type 0 where
+  pub number : ℕ
+  pub buffer : List ℕ
+  pub length : ℕ
+  pub offset : ℕ
+
+-- 0 with the length, 18 with the offset, or 17; a cell that is not named as it was
+unfoldable pub writtenAs : Writing → List ℕ → ℕ → ℕ → Written
+writtenAs (wrote octets) buffer length offset = record { number = 0; buffer = buffer; length = octets .0; offset = offset }
+writtenAs (short n) buffer length offset = record { number = n; buffer = buffer; length = length; offset = offset }
+writtenAs (faulty n o) buffer length offset = record { number = n; buffer = buffer; length = length; offset = o .0 }
+
+pub record Added : Type 0 where
+  pub number : ℕ
+  pub heads : List ℕ
+  pub contents : List ℕ
+  pub records : ℕ
+  pub octets : ℕ
+  pub offset : ℕ
+
+unfoldable pub countsAs : Answer RecordList → List ℕ → List ℕ → ℕ → ℕ → ℕ → Added
+countsAs (given next) heads contents records octets offset =
+    record { number = 0; heads = heads; contents = contents; records = next .records .0; octets = next .octets .0; offset = offset }
+countsAs (refused n o) heads contents records octets offset =
+    record { number = n; heads = heads; contents = contents; records = records; octets = octets; offset = o .0 }
+
+-- 0 with the next list's counts, or 18 with the offset and the counts as they were
+unfoldable pub addedAs : list.Outcome → ℕ → ℕ → ℕ → Added
+addedAs o records octets offset = countsAs (o .answer) (o .heads) (o .contents) records octets offset

@@ -1,0 +1,6 @@
+mod Held
+pub mod InOrder
+mod Inserting
+mod Keeping
+pub mod Lists
+mod Placing

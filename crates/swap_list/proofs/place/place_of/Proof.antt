@@ -1,0 +1,107 @@
+-- `place_of`: what was passed and the place among the heads left make up the place.
+use Prim.Native.Nat.{ℕ}
+use mathlib.Core.Path.{_≡_, ap, _∙_}
+use mathlib.Core.List.{List}
+use native.Mathlib.Omega.{arith}
+use lib.ListN.{take, drop}
+use denote.Ref.{now}
+use Rattle.swap.specs.Record.{keyOf}
+use Rattle.swap.proofs.Parts.{part-rest}
+use Rattle.swap_write.specs.Heads.{headLength}
+use Rattle.swap_list.proofs.Placing.{Sought, sought-start, sought-next, sought-here, sought-end}
+use borrow.Author.Needs.{needs}
+use Rattle.swap_list.proofs.place.place_of.Statement.{statement}
+use Rattle.swap_list.proofs.place.place_of.Tie as tie
+
+abbrev Inv-loop : tie.InvT-loop
+Inv-loop heads least left₀ head₀ from₀ left head from = Sought heads least left head from
+
+abbrev μ-loop : tie.MeasureT-loop
+μ-loop heads least left₀ head₀ from₀ left head from = left
+
+loop-holds : tie.Need-loop-holds Inv-loop μ-loop
+loop-holds c = sought-start _ _
+
+sub-key : tie.Need-sub-key Inv-loop μ-loop
+sub-key c = search needs
+
+part-key-start : tie.Need-part-key-start Inv-loop μ-loop
+part-key-start c = search needs
+
+part-key-end : tie.Need-part-key-end Inv-loop μ-loop
+part-key-end c = search needs
+
+key-requires : tie.Need-key-requires Inv-loop μ-loop
+key-requires c κs = search needs
+
+returns : tie.Need-returns Inv-loop μ-loop
+returns c =
+    let i = c .before .before .before in
+    let l = i .before .loop in
+    let hs = now (i .before .before .before .args .heads) in
+    let k : c .before .key .result ≡ keyOf (take 7 (drop (l .head) hs)) = c .before .key .ensures ∙ ap (λ (t : List ℕ). keyOf (take 7 t)) (part-rest hs (l .head)) in
+    sought-here hs _ (l .head) (l .from) (l .left) (l .inv) (i .loop-test .taken) (omega (arith, k, c .if1 .taken))
+
+sub-stated : tie.Need-sub-stated Inv-loop μ-loop
+sub-stated c = search needs
+
+part-stated-start : tie.Need-part-stated-start Inv-loop μ-loop
+part-stated-start c = search needs
+
+part-stated-end : tie.Need-part-stated-end Inv-loop μ-loop
+part-stated-end c = search needs
+
+stated-requires : tie.Need-stated-requires Inv-loop μ-loop
+stated-requires c κs = search needs
+
+add-from : tie.Need-add-from Inv-loop μ-loop
+add-from c =
+    let l = c .before .before .before .before .before .before .loop in
+    omega (arith, l .inv .small, l .inv .heads, c .stated .ensures .1, c .before .before .before .before .before .before .before .before .pre)
+
+add-head : tie.Need-add-head Inv-loop μ-loop
+add-head c = search needs
+
+sub-left : tie.Need-sub-left Inv-loop μ-loop
+sub-left c = search needs
+
+loop-less : tie.Need-loop-less Inv-loop μ-loop
+loop-less c = search needs
+
+loop-again : tie.Need-loop-again Inv-loop μ-loop
+loop-again c =
+    let i = c .before .before .before .before .before in
+    let l = i .before .loop in
+    let hs = now (i .before .before .before .args .heads) in
+    let k : c .before .before .before .key .result ≡ keyOf (take 7 (drop (l .head) hs)) = c .before .before .before .key .ensures ∙ ap (λ (t : List ℕ). keyOf (take 7 t)) (part-rest hs (l .head)) in
+    let n : c .stated .result ≡ headLength (drop (l .head) hs) = c .stated .ensures .0 ∙ ap headLength (part-rest hs (l .head)) in
+    rw n (sought-next hs _ (l .head) (l .from) (l .left) (l .inv) (i .loop-test .taken) (omega (arith, k, c .before .before .if1 .left)) (omega (arith, n, c .stated .ensures .1)))
+
+returns-2 : tie.Need-returns-2 Inv-loop μ-loop
+returns-2 c =
+    let l = c .before .loop in
+    let z : l .left ≡ 0 = omega (arith, c .loop-test .left) in
+    sought-end _ _ (l .head) (l .from) (rw z at (l .inv))
+
+pub place-of-spec : {M : Type 1} → statement M
+place-of-spec =
+    tie.close
+    (tie.spec
+    Inv-loop
+    μ-loop
+    loop-holds
+    sub-key
+    part-key-start
+    part-key-end
+    key-requires
+    returns
+    sub-stated
+    part-stated-start
+    part-stated-end
+    stated-requires
+    add-from
+    add-head
+    sub-left
+    loop-less
+    loop-again
+    returns-2)

@@ -1,0 +1,39 @@
+-- `stated`: two octets make the length.
+use Rattle.swap_write.specs.Heads.{headLength}
+use borrow.Author.Needs.{needs}
+use Rattle.swap_list.proofs.place.stated.Statement.{statement}
+use Rattle.swap_list.proofs.place.stated.Tie as tie
+
+octet-requires : tie.Need-octet-requires
+octet-requires c κs = search needs
+
+wide-requires : tie.Need-wide-requires
+wide-requires c κs = search needs
+
+octet-requires-2 : tie.Need-octet-requires-2
+octet-requires-2 c κs = search needs
+
+wide-requires-2 : tie.Need-wide-requires-2
+wide-requires-2 c κs = search needs
+
+mul-result : tie.Need-mul-result
+mul-result c = search needs
+
+add-result : tie.Need-add-result
+add-result c = search needs
+
+returns : tie.Need-returns
+unfolding headLength
+returns c = search needs
+
+pub stated-spec : {M : Type 1} → statement M
+stated-spec =
+    tie.close
+    (tie.spec
+    octet-requires
+    wide-requires
+    octet-requires-2
+    wide-requires-2
+    mul-result
+    add-result
+    returns)

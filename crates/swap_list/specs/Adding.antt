@@ -1,0 +1,79 @@
+-- A record added to a list that the writer takes, in its place (01, Swap file: "Records rise strictly by ADS then TAB").
+use Prim.Native.Nat.{ℕ, zero, suc, _+_, _*_, _/_}
+use mathlib.Core.Bool.{cond}
+use mathlib.Core.List.{List, _++_}
+use lib.Dec.{leb}
+use lib.ListN.{length, take, drop}
+use Rattle.label.specs.Fitting.{Answer, given, refused, inOctets}
+use Rattle.octets.specs.Splice.{fronted}
+use Rattle.swap.specs.declared.file.Records.{Records}
+use Rattle.swap.specs.Record.{Record, keyOf}
+use Rattle.swap.specs.Reading.{verdictOf, swapFault, inRecords}
+use Rattle.swap_write.specs.Heads.{headSize, headOf, headLength, fileOf}
+use Rattle.swap_list.specs.declared.RecordList.{RecordList}
+use Rattle.swap_list.specs.declared.Added.{Added}
+use Rattle.swap_list.specs.declared.Added.the-variants.{Kept, Fault}
+use Rattle.swap_list.specs.declared.place.Place.{Place}
+
+unfoldable pub lesser : ℕ → ℕ → ℕ
+lesser n most = cond (leb n most) n most
+
+abbrev pub empty : RecordList
+empty = record { records = inRecords 0; octets = inOctets 0 }
+
+-- the record that a call gives, its kind by the octet
+abbrev pub recordOf : List ℕ → ℕ → ℕ → List ℕ → Record
+recordOf ads tab kind content = record { ads = ads; tab = tab; kind = kind; content = content }
+
+abbrev pub further : ℕ → ℕ → Place → Place
+further head from p = record { head = head + p .head; from = from + p .from }
+
+-- the place among so many heads: after those at the front that have no higher key, and their data
+unfoldable pub placeAmong : ℕ → ℕ → List ℕ → Place
+placeAmong zero key heads = record { head = 0; from = 0 }
+placeAmong (suc k) key heads =
+    cond (leb (keyOf (take 7 heads)) key) (further headSize (headLength heads) (placeAmong k key (drop headSize heads))) (record { head = 0; from = 0 })
+
+unfoldable pub placeOf : ℕ → List ℕ → Place
+placeOf key heads = placeAmong (length heads / headSize) key heads
+
+-- s with a piece before its element at an offset; after all of them where the offset is past the end
+unfoldable pub inserted : List ℕ → ℕ → List ℕ → List ℕ
+inserted s at piece = take at s ++ piece ++ drop at s
+
+-- the heads with a head in its place, by its first seven octets: ADS and TAB
+unfoldable pub headsWith : List ℕ → List ℕ → List ℕ
+headsWith head heads = inserted heads (placeOf (keyOf (take 7 head)) heads .head) head
+
+-- the data with that of the head in its place
+unfoldable pub contentsWith : List ℕ → List ℕ → List ℕ → List ℕ → List ℕ
+contentsWith head content heads contents = inserted contents (placeOf (keyOf (take 7 head)) heads .from) content
+
+-- the answer, and the lent arrays after the call
+pub record Outcome : Type 0 where
+  pub answer : Answer RecordList
+  pub heads : List ℕ
+  pub contents : List ℕ
+
+abbrev pub answerOfAdded : Added → Answer RecordList
+answerOfAdded (Kept list) = given list
+answerOfAdded (Fault offset) = refused swapFault offset
+
+-- new heads and contents go to the front of the arrays where their file is accepted; else both arrays stay
+unfoldable pub judgedAdding : Answer Records → List ℕ → List ℕ → List ℕ → List ℕ → Outcome
+judgedAdding (given count) newHeads newContents heads contents =
+    record { answer = given (record { records = count; octets = inOctets (length newContents) }); heads = fronted newHeads heads; contents = fronted newContents contents }
+judgedAdding (refused n offset) newHeads newContents heads contents = record { answer = refused n offset; heads = heads; contents = contents }
+
+-- by what the reader says of the file that the writer would make of them
+unfoldable pub takenOver : List ℕ → List ℕ → List ℕ → List ℕ → Outcome
+takenOver newHeads newContents heads contents = judgedAdding (verdictOf (fileOf newHeads newContents)) newHeads newContents heads contents
+
+-- a head and its data put into the heads and the data of a list
+unfoldable pub addingHead : List ℕ → List ℕ → List ℕ → List ℕ → List ℕ → List ℕ → Outcome
+addingHead head content listHeads listContents heads contents =
+    takenOver (headsWith head listHeads) (contentsWith head content listHeads listContents) heads contents
+
+-- a list has the front parts of the arrays: all of an array where it counts more
+unfoldable pub adding : RecordList → Record → List ℕ → List ℕ → Outcome
+adding list r heads contents = addingHead (headOf r) (r .content) (take (headSize * list .records .0) heads) (take (list .octets .0) contents) heads contents

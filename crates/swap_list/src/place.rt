@@ -1,0 +1,64 @@
+// The head of a record, and its place among the heads of a list.
+ghost use mathlib.Core.Path.{_≡_};
+ghost use mathlib.Core.List.{_++_, _∷_, []};
+ghost use Prim.Native.Nat.{_/_, _%_, _≤_, _<_};
+ghost use lib.ListN.{length};
+ghost use Rattle.swap_write.specs.Heads.{headLength};
+ghost use Rattle.swap_list.specs.Adding.{lesser, placeOf};
+use swap::item::key;
+
+// Offsets in the heads and in their data.
+pub struct Place {
+    pub head: usize,
+    pub from: usize,
+}
+
+pub(crate) fn at_most(n: usize, most: usize) -> usize
+    ensures { λ r. ⌜ r ≡ lesser n most ⌝ }
+{
+    if most < n { most } else { n }
+}
+
+// A head of ten octets: ADS, TAB, kind, and the length of the data, the low octet first.
+pub(crate) fn head_of(ads: [u8; 6], tab: u8, kind: u8, count: usize) -> [u8; 10]
+    requires { ⌜ count < 65536 ⌝ }
+    ensures { λ r. ⌜ r ≡ ads ++ tab ∷ kind ∷ count % 256 ∷ count / 256 ∷ [] ⌝ }
+{
+    let rest = [tab, kind, (count % 256) as u8, (count / 256) as u8];
+    let mut head = [0u8; 10];
+    octets::put(&mut head, 0, &ads);
+    octets::put(&mut head, 6, &rest);
+    head
+}
+
+fn wide(octet: u8) -> usize
+    ensures { λ r. ⌜ r ≡ octet ⌝ }
+{
+    octet as usize
+}
+
+// The length that the head at the front states.
+fn stated(heads: &[u8]) -> usize
+    ensures { λ r. ⌜ (r ≡ headLength (now (heads .entry))) × (r < 65536) ⌝ }
+{
+    wide(octets::octet(heads, 8)) + 256 * wide(octets::octet(heads, 9))
+}
+
+// After the heads at the front that have no higher key, so that a record with a key that is there already comes after it.
+pub(crate) fn place_of(heads: &[u8], least: u64) -> Place
+    requires { ⌜ length (now heads) ≤ 40960 ⌝ }
+    ensures { λ r. ⌜ r ≡ placeOf least (now (heads .entry)) ⌝ }
+{
+    let mut left = heads.len() / 10;
+    let mut head: usize = 0;
+    let mut from: usize = 0;
+    while 0 < left {
+        if least < key(&heads[head..]) {
+            return Place { head, from };
+        }
+        from += stated(&heads[head..]);
+        head += 10;
+        left -= 1;
+    }
+    Place { head, from }
+}

@@ -1,0 +1,4 @@
+mod Given
+pub mod Left
+pub mod History
+pub mod Unchanged

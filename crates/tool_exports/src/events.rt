@@ -1,0 +1,95 @@
+// A fresh tool, and the events: an octet, a gap and a session end.
+ghost use mathlib.Core.Path.{_≡_};
+ghost use lib.ListN.{length};
+ghost use Rattle.tool.specs.Events.{Octet, Gap, SessionEnd};
+ghost use Rattle.tool_memory.specs.Layout.{freshMemory};
+ghost use Rattle.tool_exports.specs.Outcomes.{OctetLent, octetOutcome, EventLent, concluded, eventOutcome};
+ghost use Rattle.tool_exports.specs.Settling.{SettledOctet};
+use crate::settling::ended_mark;
+use crate::settling::store;
+use tool::Answered;
+use tool::Heard;
+
+// A fresh tool: no request runs, the receiver is empty, and there was no request yet.
+#[no_mangle]
+pub extern "C" fn propolisk_tool_new(memory: &mut [u8; 263])
+    ensures { λ _. ⌜ now (memory .exit) ≡ freshMemory ⌝ }
+{
+    *memory = [0u8; 263];
+}
+
+// What an octet leaves besides the frame: the memory, and the cells and a reading's DATA where it has no number.
+fn settle(
+    memory: &mut [u8; 263],
+    heard: Heard,
+    octets: &mut usize,
+    ended: &mut u8,
+    data: &mut [u8; 116],
+    count: &mut usize,
+) -> u8
+    ensures { λ r. ⌜ SettledOctet heard r (now (memory .entry)) (now (memory .exit)) (now (octets .entry)) (now (octets .exit)) (now (ended .entry)) (now (ended .exit)) (now («data» .entry)) (now («data» .exit)) (now (count .entry)) (now (count .exit)) ⌝ }
+{
+    let tool = heard.tool;
+    let answer = heard.answer;
+    let number = answer.number();
+    store(memory, tool, number);
+    if number != 0 {
+        return number;
+    }
+    let frame = heard.frame;
+    let contents = heard.contents;
+    let held = contents.octets;
+    let length = contents.length;
+    octets::put(data, 0, octets::part(&held, 0, length.0));
+    *octets = frame.0;
+    *ended = ended_mark(answer);
+    *count = length.0;
+    number
+}
+
+// An octet from the bus: 17, 12, then 1, 2, 4 or 5 of a bad frame, or what a reply does to the request that runs.
+#[no_mangle]
+pub extern "C" fn propolisk_tool_octet(
+    memory: &mut [u8; 263],
+    octet: u8,
+    frame: &mut [u8],
+    octets: &mut usize,
+    ended: &mut u8,
+    data: &mut [u8; 116],
+    count: &mut usize,
+) -> u8
+    ensures { λ r. ⌜ record { number = r; memory = now (memory .exit); frame = now (frame .exit); length = now (octets .exit); ended = now (ended .exit); content = now («data» .exit); count = now (count .exit) } ≡ octetOutcome (Octet octet (length (now (frame .entry)))) (record { number = 0; memory = now (memory .entry); frame = now (frame .entry); length = now (octets .entry); ended = now (ended .entry); content = now («data» .entry); count = now (count .entry) }) ⌝ }
+{
+    let tool = tool_memory::decode(memory);
+    let heard = tool.octet(octet, frame);
+    settle(memory, heard, octets, ended, data, count)
+}
+
+// The number of an event without a buffer, and the memory that it leaves.
+fn conclude(memory: &mut [u8; 263], answered: Answered) -> u8
+    ensures { λ r. ⌜ record { number = r; memory = now (memory .exit) } ≡ concluded answered (now (memory .entry)) ⌝ }
+{
+    let tool = answered.tool;
+    let answer = answered.answer;
+    let number = answer.number();
+    store(memory, tool, number);
+    number
+}
+
+// A gap: 12, or 3 inside a frame.
+#[no_mangle]
+pub extern "C" fn propolisk_tool_gap(memory: &mut [u8; 263]) -> u8
+    ensures { λ r. ⌜ record { number = r; memory = now (memory .exit) } ≡ eventOutcome Gap (now (memory .entry)) ⌝ }
+{
+    let tool = tool_memory::decode(memory);
+    conclude(memory, tool.gap())
+}
+
+// A session end: 12, or 15 where a request runs.
+#[no_mangle]
+pub extern "C" fn propolisk_tool_session_end(memory: &mut [u8; 263]) -> u8
+    ensures { λ r. ⌜ record { number = r; memory = now (memory .exit) } ≡ eventOutcome SessionEnd (now (memory .entry)) ⌝ }
+{
+    let tool = tool_memory::decode(memory);
+    conclude(memory, tool.session_end())
+}

@@ -1,0 +1,134 @@
+// The five requests. Each tests 17, 12, 16, 6, 7 in this order; a refusal changes nothing.
+ghost use mathlib.Core.Path.{_≡_};
+ghost use lib.ListN.{length};
+ghost use Rattle.tool.specs.Events.{Read, Transfer, Program, Broadcast, Initialise};
+ghost use Rattle.tool_exports.specs.Outcomes.{RequestLent, requestOutcome};
+ghost use Rattle.tool_exports.specs.Settling.{Settled};
+use crate::settling::ended_mark;
+use crate::settling::store;
+use crate::settling::wake_mark;
+use tool::Requested;
+
+// What a request leaves besides its frame: the memory, and the cells where it is not refused.
+fn settle(
+    memory: &mut [u8; 263],
+    requested: Requested,
+    octets: &mut usize,
+    wake: &mut u8,
+    ended: &mut u8,
+) -> u8
+    ensures { λ r. ⌜ Settled requested r (now (memory .entry)) (now (memory .exit)) (now (octets .entry)) (now (octets .exit)) (now (wake .entry)) (now (wake .exit)) (now (ended .entry)) (now (ended .exit)) ⌝ }
+{
+    let tool = requested.tool;
+    let answer = requested.answer;
+    let number = answer.number();
+    store(memory, tool, number);
+    if number != 0 {
+        return number;
+    }
+    let frame = requested.frame;
+    let waking = requested.wake;
+    *octets = frame.0;
+    *wake = wake_mark(waking);
+    *ended = ended_mark(answer);
+    number
+}
+
+// Asks a station for a record.
+#[no_mangle]
+pub extern "C" fn propolisk_tool_read(
+    memory: &mut [u8; 263],
+    ads: &[u8],
+    adp: u8,
+    tab: u8,
+    frame: &mut [u8],
+    octets: &mut usize,
+    wake: &mut u8,
+    ended: &mut u8,
+) -> u8
+    ensures { λ r. ⌜ record { number = r; memory = now (memory .exit); frame = now (frame .exit); length = now (octets .exit); wake = now (wake .exit); ended = now (ended .exit) } ≡ requestOutcome (Read (now (ads .entry)) adp tab (length (now (frame .entry)))) (record { number = 0; memory = now (memory .entry); frame = now (frame .entry); length = now (octets .entry); wake = now (wake .entry); ended = now (ended .entry) }) ⌝ }
+{
+    let tool = tool_memory::decode(memory);
+    let requested = tool.read(ads, adp, tab, frame);
+    settle(memory, requested, octets, wake, ended)
+}
+
+// Writes a record without a key.
+#[no_mangle]
+pub extern "C" fn propolisk_tool_transfer(
+    memory: &mut [u8; 263],
+    ads: &[u8],
+    adp: u8,
+    tab: u8,
+    data: &[u8],
+    frame: &mut [u8],
+    octets: &mut usize,
+    wake: &mut u8,
+    ended: &mut u8,
+) -> u8
+    ensures { λ r. ⌜ record { number = r; memory = now (memory .exit); frame = now (frame .exit); length = now (octets .exit); wake = now (wake .exit); ended = now (ended .exit) } ≡ requestOutcome (Transfer (now (ads .entry)) adp tab (now («data» .entry)) (length (now (frame .entry)))) (record { number = 0; memory = now (memory .entry); frame = now (frame .entry); length = now (octets .entry); wake = now (wake .entry); ended = now (ended .entry) }) ⌝ }
+{
+    let tool = tool_memory::decode(memory);
+    let requested = tool.transfer(ads, adp, tab, data, frame);
+    settle(memory, requested, octets, wake, ended)
+}
+
+// Writes a record with a key: REC now, and AUT after the right ECH.
+#[no_mangle]
+pub extern "C" fn propolisk_tool_program(
+    memory: &mut [u8; 263],
+    ads: &[u8],
+    adp: u8,
+    tab: u8,
+    data: &[u8],
+    key: &[u8],
+    na1: &[u8],
+    frame: &mut [u8],
+    octets: &mut usize,
+    wake: &mut u8,
+    ended: &mut u8,
+) -> u8
+    ensures { λ r. ⌜ record { number = r; memory = now (memory .exit); frame = now (frame .exit); length = now (octets .exit); wake = now (wake .exit); ended = now (ended .exit) } ≡ requestOutcome (Program (now (ads .entry)) adp tab (now («data» .entry)) (now (key .entry)) (now (na1 .entry)) (length (now (frame .entry)))) (record { number = 0; memory = now (memory .entry); frame = now (frame .entry); length = now (octets .entry); wake = now (wake .entry); ended = now (ended .entry) }) ⌝ }
+{
+    let tool = tool_memory::decode(memory);
+    let requested = tool.program(ads, adp, tab, data, key, na1, frame);
+    settle(memory, requested, octets, wake, ended)
+}
+
+// Writes a record of every station; done once sent.
+#[no_mangle]
+pub extern "C" fn propolisk_tool_broadcast(
+    memory: &mut [u8; 263],
+    ads: &[u8],
+    adp: u8,
+    tab: u8,
+    data: &[u8],
+    frame: &mut [u8],
+    octets: &mut usize,
+    wake: &mut u8,
+    ended: &mut u8,
+) -> u8
+    ensures { λ r. ⌜ record { number = r; memory = now (memory .exit); frame = now (frame .exit); length = now (octets .exit); wake = now (wake .exit); ended = now (ended .exit) } ≡ requestOutcome (Broadcast (now (ads .entry)) adp tab (now («data» .entry)) (length (now (frame .entry)))) (record { number = 0; memory = now (memory .entry); frame = now (frame .entry); length = now (octets .entry); wake = now (wake .entry); ended = now (ended .entry) }) ⌝ }
+{
+    let tool = tool_memory::decode(memory);
+    let requested = tool.broadcast(ads, adp, tab, data, frame);
+    settle(memory, requested, octets, wake, ended)
+}
+
+// Initialises the bus; done once sent.
+#[no_mangle]
+pub extern "C" fn propolisk_tool_initialise(
+    memory: &mut [u8; 263],
+    ads: &[u8],
+    adp: u8,
+    frame: &mut [u8],
+    octets: &mut usize,
+    wake: &mut u8,
+    ended: &mut u8,
+) -> u8
+    ensures { λ r. ⌜ record { number = r; memory = now (memory .exit); frame = now (frame .exit); length = now (octets .exit); wake = now (wake .exit); ended = now (ended .exit) } ≡ requestOutcome (Initialise (now (ads .entry)) adp (length (now (frame .entry)))) (record { number = 0; memory = now (memory .entry); frame = now (frame .entry); length = now (octets .entry); wake = now (wake .entry); ended = now (ended .entry) }) ⌝ }
+{
+    let tool = tool_memory::decode(memory);
+    let requested = tool.initialise(ads, adp, frame);
+    settle(memory, requested, octets, wake, ended)
+}

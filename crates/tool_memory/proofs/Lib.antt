@@ -1,0 +1,8 @@
+mod Flat
+mod Ten
+mod Marks
+pub mod Shape
+pub mod RoundTrip
+pub mod Memory
+pub mod Fresh
+pub mod Storable

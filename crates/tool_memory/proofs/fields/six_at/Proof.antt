@@ -1,0 +1,21 @@
+-- `six_at` is a part in an array.
+use borrow.Author.Needs.{needs}
+use Rattle.receiver_memory.specs.Fields.{fieldAt}
+use Rattle.tool_memory.proofs.fields.six_at.Statement.{statement}
+use Rattle.tool_memory.proofs.fields.six_at.Tie as tie
+
+add-part : tie.Need-add-part
+add-part c = search needs
+
+part-requires : tie.Need-part-requires
+part-requires c κs = search needs
+
+six-requires : tie.Need-six-requires
+six-requires c κs = search needs
+
+returns : tie.Need-returns
+unfolding fieldAt
+returns c = rw (c .six .ensures, c .before .part .ensures)
+
+pub six-at-spec : {M : Type 1} → statement M
+six-at-spec = tie.close (tie.spec add-part part-requires six-requires returns)

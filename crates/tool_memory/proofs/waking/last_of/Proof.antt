@@ -1,0 +1,13 @@
+-- `last_of` goes by the mark.
+use borrow.Author.Tests.{eq-eqb, ne-eqb}
+use Rattle.tool_memory.proofs.waking.last_of.Statement.{statement}
+use Rattle.tool_memory.proofs.waking.last_of.Tie as tie
+
+returns : tie.Need-returns
+returns c = rw (eq-eqb _ _ (c .if1 .taken))
+
+returns-2 : tie.Need-returns-2
+returns-2 c = rw (ne-eqb _ _ (c .if1 .left))
+
+pub last-of-spec : {M : Type 1} → statement M
+last-of-spec = tie.close (tie.spec returns returns-2)
