@@ -15,11 +15,11 @@ impl Lent {
         Lent { room: [&GUARD, octets, &GUARD].concat() }
     }
 
-    fn pointer(&mut self) -> *mut u8 {
+    pub fn pointer(&mut self) -> *mut u8 {
         self.room[GUARD.len()..].as_mut_ptr()
     }
 
-    fn count(&self) -> usize {
+    pub fn count(&self) -> usize {
         self.room.len() - 2 * GUARD.len()
     }
 
@@ -175,5 +175,113 @@ pub mod frames {
                 length,
             )
         }
+    }
+}
+
+/// The archive libcard_exports.a: the card over lent memory.
+#[cfg(part_card)]
+pub mod card {
+    use super::Lent;
+
+    #[link(name = "card_exports", kind = "static")]
+    extern "C" {
+        fn propolisk_card_setup(
+            memory: *mut u8,
+            room: usize,
+            address: *const u8,
+            address_count: usize,
+            key: *const u8,
+            key_count: usize,
+            count: u8,
+            entries: *const u8,
+        ) -> u8;
+        fn propolisk_card_step_octet(
+            memory: *mut u8,
+            room: usize,
+            octet: u8,
+            number: *const u8,
+            number_count: usize,
+            reply: *mut u8,
+            reply_room: usize,
+            length: *mut usize,
+        ) -> u8;
+        fn propolisk_card_step_gap(memory: *mut u8, room: usize) -> u8;
+        fn propolisk_card_step_session_end(memory: *mut u8, room: usize) -> u8;
+        fn propolisk_card_meter_write(
+            memory: *mut u8,
+            room: usize,
+            tab: u8,
+            data: *const u8,
+            count: usize,
+        ) -> u8;
+        fn propolisk_card_read(
+            memory: *const u8,
+            room: usize,
+            tab: u8,
+            data: *mut u8,
+            length: *mut usize,
+        ) -> u8;
+    }
+
+    /// The entries have 3,904 octets.
+    pub fn setup(memory: &mut Lent, address: &mut Lent, key: &mut Lent, count: u8, entries: &mut Lent) -> u8 {
+        assert_eq!(entries.count(), 3904);
+        let (room, address_count, key_count) = (memory.count(), address.count(), key.count());
+        unsafe {
+            propolisk_card_setup(
+                memory.pointer(),
+                room,
+                address.pointer(),
+                address_count,
+                key.pointer(),
+                key_count,
+                count,
+                entries.pointer(),
+            )
+        }
+    }
+
+    pub fn step_octet(
+        memory: &mut Lent,
+        octet: u8,
+        number: &mut Lent,
+        reply: &mut Lent,
+        length: &mut usize,
+    ) -> u8 {
+        let (room, number_count, reply_room) = (memory.count(), number.count(), reply.count());
+        unsafe {
+            propolisk_card_step_octet(
+                memory.pointer(),
+                room,
+                octet,
+                number.pointer(),
+                number_count,
+                reply.pointer(),
+                reply_room,
+                length,
+            )
+        }
+    }
+
+    pub fn step_gap(memory: &mut Lent) -> u8 {
+        let room = memory.count();
+        unsafe { propolisk_card_step_gap(memory.pointer(), room) }
+    }
+
+    pub fn step_session_end(memory: &mut Lent) -> u8 {
+        let room = memory.count();
+        unsafe { propolisk_card_step_session_end(memory.pointer(), room) }
+    }
+
+    pub fn meter_write(memory: &mut Lent, tab: u8, data: &mut Lent) -> u8 {
+        let (room, count) = (memory.count(), data.count());
+        unsafe { propolisk_card_meter_write(memory.pointer(), room, tab, data.pointer(), count) }
+    }
+
+    /// The data has room for 116 octets.
+    pub fn read(memory: &mut Lent, tab: u8, data: &mut Lent, length: &mut usize) -> u8 {
+        assert_eq!(data.count(), 116);
+        let room = memory.count();
+        unsafe { propolisk_card_read(memory.pointer(), room, tab, data.pointer(), length) }
     }
 }

@@ -1,6 +1,7 @@
 //! What our programs print for an input, written from docs/PROGRAMS.md and 01 (swaplist).
 
 use crate::cardlog;
+use crate::day;
 use crate::des;
 use crate::frame::{Body, Frame};
 use crate::hex;
@@ -11,6 +12,7 @@ use crate::swap;
 pub fn of(program: &str, input: &[u8]) -> Option<String> {
     match program {
         "cardlog" => Some(cardlog::played(input).text),
+        "day" => Some(octet_characters(&day::played())),
         "des_vectors" => Some(des_vectors(input)),
         "framelist" => Some(framelist(input)),
         "swaplist" => Some(swap::listing(input)),
@@ -19,7 +21,7 @@ pub fn of(program: &str, input: &[u8]) -> Option<String> {
 }
 
 /// One line of `framelist`: the command, its address and the fields that carry information.
-fn frame_line(frame: &Frame) -> String {
+pub fn frame_line(frame: &Frame) -> String {
     let head = |command: &str| format!("{command} ADS {} ADP {:02X}", hex::text(&frame.ads), frame.adp);
     let tail = |name: &str, octets: &[u8]| match octets {
         [] => format!(" {name}"),
@@ -140,6 +142,11 @@ fn des_vectors(input: &[u8]) -> String {
         report += &tally.line(&latin(&set));
     }
     report + &total.line("total")
+}
+
+/// A text whose octets stand each for one character, as `compare print` takes them back.
+fn octet_characters(text: &str) -> String {
+    latin(text.as_bytes())
 }
 
 /// A set's name, octet by octet.

@@ -2,17 +2,19 @@
 //! and compared with our libraries.
 //!
 //! `compare PART.. [--cases N] [--seed S]`; the parts are `vectors` (the program against published data
-//! and itself), our programs by their names and, where compiled in, `leaves` and `frames`. `compare print
+//! and itself), our programs by their names and, where compiled in, `leaves`, `frames`, `card`, `swap` and `tool`. `compare print
 //! PROGRAM` prints what a program should print for standard input, and `compare write PROGRAM` its stored
-//! input, where that is made here.
+//! input, or what a C example should print, where that is made here.
 
 mod bench;
 mod bench_card;
 mod bench_tool;
 mod book;
 mod card;
+mod card_host;
 mod cardlog;
 mod crc;
+mod day;
 mod des;
 mod encoding;
 mod frame;
@@ -37,12 +39,34 @@ mod utf8;
 mod vectors;
 mod wire;
 
-#[cfg(any(part_leaves, part_frames))]
+#[cfg(part_card)]
+mod card_calls;
+#[cfg(part_card)]
+mod card_memory;
+#[cfg(part_card)]
+mod card_runs;
+#[cfg(any(part_leaves, part_frames, part_card, part_swap, part_tool))]
 mod ffi;
+#[cfg(part_swap)]
+mod ffi_swap;
+#[cfg(part_tool)]
+mod ffi_tool;
+#[cfg(part_figures)]
+mod figures;
+#[cfg(part_figures)]
+mod figures_card;
+#[cfg(part_figures)]
+mod figures_receiver;
 #[cfg(part_frames)]
 mod frames;
 #[cfg(part_leaves)]
 mod leaves;
+#[cfg(part_card)]
+mod random_damage;
+#[cfg(part_swap)]
+mod swap_calls;
+#[cfg(part_tool)]
+mod tool_calls;
 
 use report::{tell, Disagreement};
 use rng::Rng;
@@ -99,7 +123,7 @@ fn main() -> ExitCode {
         }
     }
     let Some(options) = options() else {
-        eprintln!("usage: compare PART.. [--cases N] [--seed S], with PART one of vectors, leaves, frames, des_vectors, framelist, cardlog, swaplist");
+        eprintln!("usage: compare PART.. [--cases N] [--seed S], with PART one of vectors, leaves, frames, card, swap, tool, des_vectors, framelist, cardlog, swaplist, day");
         return ExitCode::from(2);
     };
     println!("seed {}", options.seed);
@@ -109,8 +133,19 @@ fn main() -> ExitCode {
             "vectors" => self_tests(&mut rng, options.cases.unwrap_or(2_000)),
             #[cfg(part_leaves)]
             "leaves" => compare_leaves(&mut rng, options.cases.unwrap_or(100_000)),
+            #[cfg(part_figures)]
+            "figures" => {
+                figures::print(&mut rng);
+                true
+            }
             #[cfg(part_frames)]
             "frames" => compare_frames(&mut rng, options.cases.unwrap_or(100_000)),
+            #[cfg(part_card)]
+            "card" => card_runs::compare(&mut rng, options.cases.unwrap_or(100_000)),
+            #[cfg(part_swap)]
+            "swap" => compare_swap(&mut rng, options.cases.unwrap_or(100_000)),
+            #[cfg(part_tool)]
+            "tool" => compare_tool(&mut rng, options.cases.unwrap_or(100_000)),
             "des_vectors" => {
                 tell("des_vectors, lines", programs::des_vectors(&mut rng, options.cases.unwrap_or(20_000)))
             }
@@ -178,6 +213,21 @@ fn compare_leaves(rng: &mut Rng, cases: usize) -> bool {
 #[cfg(part_frames)]
 fn compare_frames(rng: &mut Rng, cases: usize) -> bool {
     tell("frames built", frames::build(rng, cases)) && tell("frames read", frames::read(rng, cases))
+}
+
+#[cfg(part_tool)]
+fn compare_tool(rng: &mut Rng, cases: usize) -> bool {
+    tell("tool, five reads and a sixth", tool_calls::five_reads())
+        && tell_with("tool, calls", "ended a request well", tool_calls::calls(rng, cases))
+        && tell_with("tool, perfect wire", "ended well", tool_calls::on_the_wire(rng, cases / 50, None))
+        && tell_with("tool, lossy wire", "ended well", tool_calls::on_the_wire(rng, cases / 50, Some(150)))
+}
+
+#[cfg(part_swap)]
+fn compare_swap(rng: &mut Rng, cases: usize) -> bool {
+    tell("swap files read, calls", swap_calls::reading(rng, cases))
+        && tell("swap files written", swap_calls::writing(rng, cases / 2))
+        && tell("swap lists, records", swap_calls::listing(rng, cases / 2))
 }
 
 fn compare_cardlog(rng: &mut Rng, cases: usize) -> bool {

@@ -124,6 +124,7 @@ pub fn swaplist(rng: &mut Rng, cases: usize) -> Result<usize, Disagreement> {
     for (count, length) in [(4_096, 0), (4_096, 6), (4_097, 0), (520, 116), (521, 116)] {
         files.push(swap::encode(&rising(count, length)));
     }
+    files.push(swap::encode(&full()));
     files.extend([65_535, 65_536, 65_537, 70_000].map(|count| vec![0; count]));
     for file in &files {
         case("swaplist", file)?;
@@ -136,9 +137,17 @@ pub fn swaplist(rng: &mut Rng, cases: usize) -> Result<usize, Disagreement> {
 }
 
 /// So many raw records of one length.
-fn rising(count: usize, length: usize) -> Vec<swap::Record> {
+pub fn rising(count: usize, length: usize) -> Vec<swap::Record> {
     let ads = |i: usize| [0, 0, 0, 0, (i / 256) as u8, (i % 256) as u8];
     (0..count).map(|i| swap::Record { ads: ads(i), tab: 0, kind: RAW, data: vec![0x80; length] }).collect()
+}
+
+/// Records whose file has 65,536 octets.
+pub fn full() -> Vec<swap::Record> {
+    let mut records = rising(524, 116);
+    let left = 65_536 - swap::encode(&records).len();
+    records.push(swap::Record { ads: [1; 6], tab: 0, kind: RAW, data: vec![0; left - 9] });
+    records
 }
 
 fn random_file(rng: &mut Rng) -> Vec<u8> {

@@ -2,17 +2,33 @@
 
 use crate::bench::{ADDRESS, FOREIGN, KEY, NA1, NA2};
 use crate::book::Event;
+use crate::card_host;
 use crate::des;
 use crate::encoding::{self, Given};
 use crate::frame::{Address, Body, Frame};
 use crate::record::{Record, LABEL, RAW};
-use crate::utf8::{Characters, Octets};
+use crate::utf8::{self, Characters, Fit, Octets};
 
 const TAB: u8 = 0x0A;
 
-/// The stored input of a program, where it is made here.
+/// The file that is stored for a program and made here: an input, or what a C example prints.
 pub fn of(program: &str) -> Option<Vec<u8>> {
-    (program == "cardlog").then(cardlog)
+    match program {
+        "cardlog" => Some(cardlog()),
+        "card_host" => Some(card_host::printed().into_bytes()),
+        "fit" => Some(fit()),
+        _ => None,
+    }
+}
+
+/// What the example fit prints of its label within 14 octets and 20 characters.
+fn fit() -> Vec<u8> {
+    let label = "Résidence Pré Fleuri".as_bytes();
+    let Fit::Kept(octets, characters) = utf8::fit(label, Octets(14), Characters(20)) else {
+        unreachable!("the label is well-formed")
+    };
+    let counts = format!("{} octets, {} characters: ", octets.0, characters.0);
+    [counts.as_bytes(), &label[..octets.0], b"\n"].concat()
 }
 
 fn given() -> Given {

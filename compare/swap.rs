@@ -102,6 +102,17 @@ pub fn read(file: &[u8]) -> Result<Vec<Record>, Fault> {
     Ok(records)
 }
 
+/// The record that stands at an offset, judged by its own items alone, and the offset at which it ends.
+#[cfg(part_swap)]
+pub fn record_at(file: &[u8], at: usize) -> Option<(Record, usize)> {
+    if at > file.len() {
+        return None;
+    }
+    let mut rest = Rest { file, at };
+    let record = rest.record(None).ok()?;
+    Some((record, rest.at))
+}
+
 /// The file that a list of records would make, faulty or not.
 pub fn encode(records: &[Record]) -> Vec<u8> {
     let mut file = number::shortest_form(records.len());

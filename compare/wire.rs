@@ -11,7 +11,46 @@ use crate::receiver::{Heard, Receiver};
 use crate::record::Record;
 use crate::report::{same, Case, Disagreement};
 use crate::rng::Rng;
-use crate::tool::{Outcome, Request, Tool};
+use crate::tool::{Begun, Outcome, Request, Tool};
+
+/// A primary station that can be put on the wire.
+pub trait Primary {
+    fn request(
+        &mut self,
+        ads: &[u8],
+        adp: u8,
+        request: &Request,
+        buffer: &mut [u8],
+    ) -> Result<Begun, Number>;
+    fn octet(&mut self, octet: u8, buffer: &mut [u8]) -> Outcome;
+    fn gap(&mut self) -> Outcome;
+    fn session_end(&mut self) -> Outcome;
+    /// The first disagreement inside the station, where it is two that are compared.
+    fn verdict(&mut self) -> Case {
+        Ok(())
+    }
+}
+
+impl Primary for Tool {
+    fn request(
+        &mut self,
+        ads: &[u8],
+        adp: u8,
+        request: &Request,
+        buffer: &mut [u8],
+    ) -> Result<Begun, Number> {
+        Tool::request(self, ads, adp, request, buffer)
+    }
+    fn octet(&mut self, octet: u8, buffer: &mut [u8]) -> Outcome {
+        Tool::octet(self, octet, buffer)
+    }
+    fn gap(&mut self) -> Outcome {
+        Tool::gap(self)
+    }
+    fn session_end(&mut self) -> Outcome {
+        Tool::session_end(self)
+    }
+}
 
 /// How a request ended: with a number or none; of a reading, its DATA.
 #[derive(Clone, PartialEq, Debug)]
@@ -105,7 +144,13 @@ impl Station {
 }
 
 /// Plays a request to its end. Where nothing more comes, the tool's host reports a session end.
-fn play(tool: &mut Tool, station: &mut Station, wire: &mut Wire, first: &[u8], awaited: bool) -> Ending {
+fn play(
+    tool: &mut impl Primary,
+    station: &mut Station,
+    wire: &mut Wire,
+    first: &[u8],
+    awaited: bool,
+) -> Ending {
     let mut frame = first.to_vec();
     loop {
         let heard = wire.carry(&frame);
@@ -132,7 +177,7 @@ enum Step {
 }
 
 /// Feeds the tool octets and then a gap, and gives what came of them.
-fn tool_hears(tool: &mut Tool, octets: &[u8]) -> Step {
+fn tool_hears(tool: &mut impl Primary, octets: &[u8]) -> Step {
     let mut buffer = [0; 128];
     let mut step = Step::Silence;
     for octet in octets {
@@ -207,20 +252,31 @@ fn random_request(rng: &mut Rng, setup: &Setup) -> (Address, Request) {
     }
 }
 
-/// Requests played, and how many of them ended without a number.
+/// The model's own tool on the wire.
 pub fn tool_and_card(
     rng: &mut Rng,
     requests: usize,
     damage_once_in: Option<usize>,
 ) -> Result<(usize, usize), Disagreement> {
+    primary_and_card(rng, requests, damage_once_in, Tool::fresh)
+}
+
+/// Requests played, and how many of them ended without a number.
+pub fn primary_and_card<P: Primary>(
+    rng: &mut Rng,
+    requests: usize,
+    damage_once_in: Option<usize>,
+    fresh: fn() -> P,
+) -> Result<(usize, usize), Disagreement> {
     let (mut played, mut succeeded) = (0, 0);
     while played < requests {
         let mut station = Station::new(random_history::setup(rng));
-        let mut tool = Tool::fresh();
+        let mut tool = fresh();
         for _ in 0..20 {
             let (ads, request) = random_request(rng, &station.setup);
             let mut wire = Wire { rng: &mut *rng, damage_once_in, damaged: false, undetected: false };
             let ending = one_request(&mut tool, &mut station, &mut wire, ads, &request)?;
+            tool.verdict()?;
             succeeded += ending.number.is_none() as usize;
             played += 1;
         }
@@ -229,7 +285,7 @@ pub fn tool_and_card(
 }
 
 fn one_request(
-    tool: &mut Tool,
+    tool: &mut impl Primary,
     station: &mut Station,
     wire: &mut Wire,
     ads: Address,

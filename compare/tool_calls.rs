@@ -1,0 +1,387 @@
+//! Our tool over lent memory beside the model, call by call: requests, octets, gaps, session ends and damaged memory;
+//! and on the wire with the model's card.
+
+use crate::bench::{ADDRESS, FOREIGN, KEY};
+use crate::des;
+use crate::ffi::Lent;
+use crate::ffi_tool::{self as ours, Cells};
+use crate::frame::{self, Address, Body, Frame, Number, BROADCAST};
+use crate::hex;
+use crate::random_frames;
+use crate::receiver::Receiver;
+use crate::report::{same, Case, Disagreement};
+use crate::rng::Rng;
+use crate::tool::{After, Begun, Outcome, Request, Running, Sort, Tool};
+use crate::wire::{self, Primary};
+
+/// docs/TOOL_MEMORY.md.
+const SIZE: usize = 263;
+const LENGTH: usize = 2;
+const LAST: usize = 126;
+const RECEIVER: usize = 134;
+
+/// What every cell and lent octet holds before a call, so that a write is seen.
+const CELLS: Cells = Cells { octets: 777, wake: 7, ended: 7, count: 777 };
+
+/// 01, The card (12), read off the octets of a tool memory.
+fn sound(memory: &[u8]) -> bool {
+    let held = memory[RECEIVER + 1] as usize;
+    let n = memory[RECEIVER + 2];
+    let partial = memory[RECEIVER] == 0 && held > 0;
+    let in_use = memory[0] <= 4 && memory[LAST] <= 1 && memory[RECEIVER] <= 1;
+    in_use && (memory[0] != 3 || memory[LENGTH] <= 100) && !(partial && (frame::refused_n(n) || held >= n as usize))
+}
+
+/// The octets of the layout that the papers decide for this tool, and the octets that stand there; the others are free.
+fn decided(tool: &Tool) -> Vec<(usize, Vec<u8>)> {
+    let mut fields = vec![];
+    let mark = match &tool.running {
+        None => 0,
+        Some(Running { ads, adp, after }) => {
+            fields.extend([(3, ads.to_vec()), (9, vec![*adp])]);
+            match after {
+                After::Enq { tab } => {
+                    fields.push((1, vec![*tab]));
+                    1
+                }
+                After::Trf => 2,
+                After::Rec { tab, data, key, na1 } => {
+                    fields.extend([(1, vec![*tab, data.len() as u8]), (10, key.to_vec())]);
+                    fields.extend([(18, na1.to_vec()), (26, data.clone())]);
+                    3
+                }
+                After::Aut => 4,
+            }
+        }
+    };
+    fields.push((0, vec![mark]));
+    fields.extend(waking(tool));
+    fields.extend(match &tool.receiver {
+        Receiver::Empty => vec![(RECEIVER, vec![0, 0])],
+        Receiver::Skipping => vec![(RECEIVER, vec![1])],
+        Receiver::Partial(held) => vec![(RECEIVER, [&[0, held.len() as u8], &held[..]].concat())],
+    });
+    fields
+}
+
+/// What the wake-up rule needs of the requests so far.
+fn waking(tool: &Tool) -> Vec<(usize, Vec<u8>)> {
+    let Some(last) = tool.sent.last() else { return vec![(LAST, vec![0])] };
+    if last.sort == Sort::RecTrbOrIb {
+        return vec![(LAST, vec![0])];
+    }
+    let woken = tool.sent.iter().rposition(|sent| sent.woken).expect("the first ENQ or TRF had one");
+    let succeeded = tool.sent[woken..].iter().filter(|sent| sent.succeeded).count();
+    vec![(LAST, vec![1]), (LAST + 1, last.ads.to_vec()), (LAST + 7, vec![succeeded.min(5) as u8])]
+}
+
+/// The model and ours, given the same calls.
+pub struct Pair {
+    model: Tool,
+    memory: Lent,
+    cells: Cells,
+    verdict: Case,
+}
+
+impl Pair {
+    /// A fresh tool over memory that held anything.
+    fn fresh() -> Pair {
+        let mut memory = Lent::new(&[0x5A; SIZE]);
+        ours::new(&mut memory);
+        let pair = Pair { model: Tool::fresh(), memory, cells: CELLS, verdict: Ok(()) };
+        Pair { verdict: pair.holds("new", 0, &[0; SIZE]), ..pair }
+    }
+
+    /// The memory holds the model's tool, and a refusal left what 01 says: at 6, 7, 12, 16 and 17 everything, at
+    /// any other number everything but the mark and the receiver.
+    fn holds(&self, call: &str, number: Number, before: &[u8]) -> Case {
+        let memory = self.memory.octets();
+        let input = || format!("{call} on {}", hex::text(before));
+        for (at, octets) in decided(&self.model) {
+            same(hex::text(&memory[at..at + octets.len()]), hex::text(&octets), || {
+                format!("octet {at} after {}", input())
+            })?;
+        }
+        let kept = match number {
+            0 => true,
+            6 | 7 | 12 | 16 | 17 => memory == before,
+            1..=5 => memory[..RECEIVER] == before[..RECEIVER],
+            _ => memory[1..RECEIVER] == before[1..RECEIVER],
+        };
+        same((kept, self.memory.guards_kept(), sound(memory)), (true, true, true), input)
+    }
+
+    fn agree(&mut self, call: &str, number: (Number, Number), cells: Cells, lent: [(Lent, &[u8]); 2], before: &[u8]) {
+        if self.verdict.is_err() {
+            return;
+        }
+        let input = || format!("{call} on {}", hex::text(before));
+        let [(frame, frame_after), (data, data_after)] = &lent;
+        let buffers = (frame.still_holds(frame_after), data.still_holds(data_after));
+        self.verdict = same((number.0, &self.cells, buffers), (number.1, &cells, (true, true)), input)
+            .and_then(|()| self.holds(call, number.0, before));
+        self.cells = CELLS;
+    }
+}
+
+/// The number of an outcome, and the cells where it has none.
+fn told(outcome: &Outcome) -> (Number, Cells) {
+    let cells = |octets, ended, count| Cells { octets, wake: CELLS.wake, ended, count };
+    match outcome {
+        Outcome::Nothing => (0, cells(0, 0, 0)),
+        Outcome::Authenticate(octets) => (0, cells(*octets, 0, 0)),
+        Outcome::Done(data) => (0, cells(0, 1, data.as_ref().map_or(0, Vec::len))),
+        Outcome::Refused(number) | Outcome::Dropped(number) | Outcome::Failed(number) => (*number, CELLS),
+    }
+}
+
+impl Primary for Pair {
+    fn request(&mut self, ads: &[u8], adp: u8, request: &Request, buffer: &mut [u8]) -> Result<Begun, Number> {
+        let before = self.memory.octets().to_vec();
+        let mut frame = Lent::new(buffer);
+        let number = ours::request(&mut self.memory, ads, adp, request, &mut frame, &mut self.cells);
+        let begun = self.model.request(ads, adp, request, buffer);
+        let done = matches!(request, Request::Broadcast { .. } | Request::Initialise);
+        let cells = begun.map_or(CELLS, |begun| Cells {
+            octets: begun.length,
+            wake: begun.wake_up as u8,
+            ended: done as u8,
+            ..CELLS
+        });
+        let data = Lent::new(&[]);
+        let call = format!("{request:?} to {} adp {adp} room {}", hex::text(ads), buffer.len());
+        self.agree(&call, (number, begun.err().unwrap_or(0)), cells, [(frame, buffer), (data, &[])], &before);
+        begun
+    }
+
+    fn octet(&mut self, octet: u8, buffer: &mut [u8]) -> Outcome {
+        let before = self.memory.octets().to_vec();
+        let (mut frame, mut data) = (Lent::new(buffer), Lent::new(&[0x5A; 116]));
+        let number = ours::octet(&mut self.memory, octet, &mut frame, &mut self.cells, &mut data);
+        let outcome = self.model.octet(octet, buffer);
+        let mut content = [0x5A; 116];
+        if let Outcome::Done(Some(read)) = &outcome {
+            content[..read.len()].copy_from_slice(read);
+        }
+        let (expected, cells) = told(&outcome);
+        let call = format!("octet {octet:02X}");
+        self.agree(&call, (number, expected), cells, [(frame, buffer), (data, &content)], &before);
+        outcome
+    }
+
+    fn gap(&mut self) -> Outcome {
+        let before = self.memory.octets().to_vec();
+        let number = ours::gap(&mut self.memory);
+        let outcome = self.model.gap();
+        let none = || (Lent::new(&[]), &[][..]);
+        self.agree("gap", (number, told(&outcome).0), CELLS, [none(), none()], &before);
+        outcome
+    }
+
+    fn session_end(&mut self) -> Outcome {
+        let before = self.memory.octets().to_vec();
+        let number = ours::session_end(&mut self.memory);
+        let outcome = self.model.session_end();
+        let none = || (Lent::new(&[]), &[][..]);
+        self.agree("session end", (number, told(&outcome).0), CELLS, [none(), none()], &before);
+        outcome
+    }
+
+    fn verdict(&mut self) -> Case {
+        std::mem::replace(&mut self.verdict, Ok(()))
+    }
+}
+
+/// A buffer that is often just long enough, and sometimes too short.
+fn buffer(rng: &mut Rng) -> Vec<u8> {
+    let room = match rng.below(24) {
+        0 => 127,
+        1 => 0,
+        2 => 129 + rng.below(100),
+        _ => 128,
+    };
+    rng.octets(room)
+}
+
+/// Now and then one octet less or more than the field has.
+fn lent(rng: &mut Rng, field: &[u8]) -> Vec<u8> {
+    match rng.below(30) {
+        0 => field[1..].to_vec(),
+        1 => [field, &[1]].concat(),
+        _ => field.to_vec(),
+    }
+}
+
+fn request(rng: &mut Rng) -> (Vec<u8>, Request) {
+    let tab = rng.octet();
+    let count = rng.pick(&[0, 1, 4, 50, 99, 100, 101, 115, 116, 117, 200]);
+    let data = rng.octets(count);
+    let request = match rng.below(9) {
+        0..=3 => Request::Read { tab },
+        4 => Request::Transfer { tab, data },
+        5 | 6 => Request::Program { tab, data, key: lent(rng, &KEY), na1: rng.octets(8) },
+        7 => Request::Broadcast { tab, data },
+        _ => Request::Initialise,
+    };
+    let own = if matches!(request, Request::Broadcast { .. } | Request::Initialise) { BROADCAST } else { ADDRESS };
+    let ads = rng.pick(&[own, own, own, own, own, ADDRESS, FOREIGN, BROADCAST]);
+    (lent(rng, &ads), request)
+}
+
+/// A reply that the running request may expect, right or nearly so; or any frame.
+fn reply(rng: &mut Rng, tool: &Tool) -> Vec<u8> {
+    let Some(Running { ads, adp, after }) = &tool.running else {
+        let adp = rng.octet();
+        return Frame { adp, ..random_frames::frame(rng, ADDRESS) }.octets().expect("DATA within its limit");
+    };
+    let near = |rng: &mut Rng, octet: u8| if rng.once_in(8) { octet ^ 1 } else { octet };
+    let rejected = rng.once_in(8);
+    let body = match after {
+        _ if rng.once_in(10) => {
+            let command = rng.pick(&frame::COMMANDS);
+            random_frames::body(rng, command)
+        }
+        After::Enq { .. } | After::Trf | After::Aut if rejected => Body::Drj,
+        After::Enq { tab } => {
+            let count = rng.pick(&[0, 1, 20, 115, 116]);
+            Body::Dat { tab: near(rng, *tab), data: rng.octets(count) }
+        }
+        After::Trf => Body::Tra,
+        After::Aut if rng.once_in(6) => Body::Arj,
+        After::Aut => Body::Eos,
+        After::Rec { tab, data, key, na1 } => {
+            let mut na1k = des::encipher(*key, *na1);
+            na1k[7] = near(rng, na1k[7]);
+            let mut data = data.clone();
+            match rng.below(12) {
+                0 => data.iter_mut().last().into_iter().for_each(|last| *last ^= 1),
+                1 => drop(data.pop()),
+                2 if data.len() < 100 => data.push(0),
+                _ => {}
+            }
+            Body::Ech { na1k, na2: rng.field(), tab: near(rng, *tab), data }
+        }
+    };
+    let (ads, adp): (Address, u8) = match rng.below(12) {
+        0 => (FOREIGN, *adp),
+        1 => (*ads, adp.wrapping_add(1)),
+        2 => (BROADCAST, *adp),
+        _ => (*ads, *adp),
+    };
+    Frame { ads, adp, body }.octets().expect("DATA within its limit")
+}
+
+/// A memory with some octets damaged is refused with 12 exactly where it is not sound, after 17; then nothing has changed.
+fn damaged(rng: &mut Rng, pair: &Pair) -> Case {
+    let mut octets = pair.memory.octets().to_vec();
+    for _ in 0..1 + rng.below(3) {
+        let anywhere = rng.below(SIZE);
+        let at = rng.pick(&[0, 1, LENGTH, LAST, RECEIVER, RECEIVER + 1, RECEIVER + 2, anywhere]);
+        octets[at] = if rng.once_in(2) { rng.below(6) as u8 } else { rng.octet() };
+    }
+    let (mut memory, mut cells, room) = (Lent::new(&octets), CELLS, rng.pick(&[127, 128]));
+    let (mut frame, mut data) = (Lent::new(&vec![0x5A; room]), Lent::new(&[0x5A; 116]));
+    let (number, short) = match rng.below(4) {
+        0 => (ours::gap(&mut memory), false),
+        1 => (ours::session_end(&mut memory), false),
+        2 => (ours::octet(&mut memory, rng.octet(), &mut frame, &mut cells, &mut data), room < 128),
+        _ => {
+            let (ads, request) = request(rng);
+            let six = ads.len() == 6;
+            let eight = !matches!(&request, Request::Program { key, .. } if key.len() != 8);
+            let number = ours::request(&mut memory, &ads, 1, &request, &mut frame, &mut cells);
+            (number, room < 128 || !six || !eight)
+        }
+    };
+    let refusal = if short { Some(17) } else { (!sound(&octets)).then_some(12) };
+    let input = || format!("damaged memory {}", hex::text(&octets));
+    let given = matches!(number, 12 | 17).then_some(number);
+    same(given, refusal, input)?;
+    let guarded = memory.guards_kept() && frame.guards_kept() && data.guards_kept();
+    let untouched = memory.still_holds(&octets)
+        && frame.still_holds(&vec![0x5A; room])
+        && data.still_holds(&[0x5A; 116])
+        && cells == CELLS;
+    same(guarded && (refusal.is_none() || untouched), true, input)
+}
+
+/// Calls compared, and how many of them ended a request well.
+pub fn calls(rng: &mut Rng, cases: usize) -> Result<(usize, usize), Disagreement> {
+    let (mut calls, mut ended) = (0, 0);
+    while calls < cases {
+        let mut pair = Pair::fresh();
+        for _ in 0..60 {
+            calls += 1;
+            match rng.below(12) {
+                0..=3 => {
+                    let (ads, request) = request(rng);
+                    let adp = rng.below(3) as u8;
+                    let _ = pair.request(&ads, adp, &request, &mut buffer(rng));
+                }
+                4 => drop(pair.gap()),
+                5 if rng.once_in(3) => drop(pair.session_end()),
+                5 => drop(pair.octet(rng.octet(), &mut buffer(rng))),
+                6 => damaged(rng, &pair)?,
+                kind => {
+                    let octets = if kind == 7 && rng.once_in(2) {
+                        random_frames::damaged(rng, ADDRESS)
+                    } else {
+                        reply(rng, &pair.model)
+                    };
+                    let (fed, well) = feed(rng, &mut pair, &octets);
+                    calls += fed;
+                    ended += well;
+                }
+            }
+            pair.verdict()?;
+        }
+    }
+    Ok((calls, ended))
+}
+
+/// Hands over octets and perhaps a gap, which may cut them; an octet refused with 17 comes again. Gives the calls
+/// made, and how many of them ended a request well.
+fn feed(rng: &mut Rng, pair: &mut Pair, octets: &[u8]) -> (usize, usize) {
+    let cut = if rng.once_in(15) { rng.below(octets.len()) } else { octets.len() };
+    let (mut fed, mut ended) = (0, 0);
+    for octet in &octets[..cut] {
+        loop {
+            fed += 1;
+            let outcome = pair.octet(*octet, &mut buffer(rng));
+            ended += matches!(outcome, Outcome::Done(_)) as usize;
+            if outcome != Outcome::Refused(17) {
+                break;
+            }
+        }
+    }
+    if cut < octets.len() || rng.once_in(2) {
+        pair.gap();
+    }
+    (fed, ended)
+}
+
+/// 01's row: five good reads of one station have one wake-up, and the sixth has a second.
+pub fn five_reads() -> Result<usize, Disagreement> {
+    let mut pair = Pair::fresh();
+    for (read, wake_up) in [true, false, false, false, false, true].into_iter().enumerate() {
+        let mut buffer = [0; 128];
+        let begun = pair.request(&ADDRESS, 1, &Request::Read { tab: 10 }, &mut buffer);
+        same(begun.map(|begun| begun.wake_up), Ok(wake_up), || format!("read {read}"))?;
+        let dat = Frame { ads: ADDRESS, adp: 1, body: Body::Dat { tab: 10, data: vec![1, 2, 3] } };
+        for octet in dat.octets().expect("DATA within its limit") {
+            pair.octet(octet, &mut buffer);
+        }
+        pair.verdict()?;
+        same(pair.model.running.is_none(), true, || format!("read {read}"))?;
+    }
+    Ok(6)
+}
+
+/// Our tool with the model's card on a wire.
+pub fn on_the_wire(
+    rng: &mut Rng,
+    requests: usize,
+    damage_once_in: Option<usize>,
+) -> Result<(usize, usize), Disagreement> {
+    wire::primary_and_card(rng, requests, damage_once_in, Pair::fresh)
+}

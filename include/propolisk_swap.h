@@ -1,0 +1,50 @@
+/* The swap file for C programs: the verdict on a file, its records one by one, the writer, and a list that collects records for it.
+ *
+ * Link libswap_exports.a (`rt staticlib swap_exports` writes it to target/staticlib/, for x86-64 Linux). Buffers and cells of one call must
+ * not overlap, and no pointer is null, also where its count is 0. ADS is in written order, most significant octet first; a kind is 0 for
+ * raw and 1 for a label. A refusal changes nothing that is lent but the cell that it names. */
+#ifndef PROPOLISK_SWAP_H
+#define PROPOLISK_SWAP_H
+
+#include <stdbool.h>
+#include <stddef.h>
+#include <stdint.h>
+
+/*  0: the file is accepted; *records is its count of records.
+ * 18: it is faulty; *offset is the start of its first bad item, or 65,536 where it is too long. */
+uint8_t propolisk_swap_verdict(const uint8_t *file, size_t count, size_t *records, size_t *offset);
+
+/* The cursor of the first record: the offset at which it stands, and how many records are left from there on. A cursor is good for the
+ * file it was made of; a file that is not accepted may have one too. */
+void propolisk_swap_start(const uint8_t *file, size_t count, size_t *at, size_t *left);
+
+/* The record at a cursor.
+ *  0: *found says whether a record was left. If so, its ADS, TAB and kind are in the cells, its data is the *length octets of the file
+ *     from *from on, and the cursor goes on to the next record; if not, every other cell is kept.
+ * 18: no record stands at the cursor: it is none of this file, or the file is not one that the verdict accepts. *found is false, and all else is
+ *     kept; propolisk_swap_verdict gives the offset of a file's first bad item.
+ * *found holds false or true before the call too, as any bool does that C reads. */
+uint8_t propolisk_swap_next(const uint8_t *file, size_t count, size_t *at, size_t *left, bool *found, uint8_t ads[6], uint8_t *tab,
+                            uint8_t *kind, size_t *from, size_t *length);
+
+/* The first record of this station from a cursor on, with the cursor after it; answers as above, 18 also where a record on the way is bad. */
+uint8_t propolisk_swap_next_for(const uint8_t *file, size_t count, const uint8_t station[6], size_t *at, size_t *left, bool *found,
+                                uint8_t ads[6], uint8_t *tab, uint8_t *kind, size_t *from, size_t *length);
+
+/* Writes the file of these records over the front of the buffer; octets past the file are kept. A head is ten octets: ADS 6, TAB, kind,
+ * and the length of its data, low octet first; the data of all heads stands one after the other.
+ *  0: *length is the file's length.
+ * 18: the file would be faulty; *offset is what the verdict on it would give. Tested before 17.
+ * 17: the buffer is too short for the file. */
+uint8_t propolisk_swap_write(const uint8_t *heads, size_t heads_count, const uint8_t *contents, size_t contents_count, uint8_t *buffer,
+                             size_t room, size_t *length, size_t *offset);
+
+/* Adds a record to a list, in its place by ADS then TAB. The list is *records heads and *octets octets of data, at the front of the two
+ * arrays, as propolisk_swap_write takes them; both counts are 0 at first. Takes about 107 KB of stack.
+ *  0: *records and *octets are those of the list with the record.
+ * 18: the list with the record would make a faulty file; *offset is what the verdict on it would give. Both arrays and both counts are
+ *     kept. So is a record with an ADS and TAB that the list has already, and one for which there is no room. */
+uint8_t propolisk_swap_add(uint8_t heads[40960], uint8_t contents[65536], size_t *records, size_t *octets, const uint8_t ads[6],
+                           uint8_t tab, uint8_t kind, const uint8_t *content, size_t count, size_t *offset);
+
+#endif
