@@ -15,7 +15,7 @@ use Rattle.records.specs.Setup.{keepsRules, contentsAnswers, accepts, empty}
 use Rattle.records.specs.Setup as records
 use Rattle.records.proofs.Soundness.{sound-means, empty-sound}
 use Rattle.receiver.proofs.Soundness.{fresh-sound}
-use Rattle.card.specs.Soundness.{broadcast}
+use Rattle.frame.specs.Addresses.{broadcast}
 use Rattle.card.specs.declared.Answer.the-variants.{BroadcastAddress, BrokenRule, WrongLength}
 use Rattle.card.specs.Setup.{fresh, bare, refusedSetup, admittedWith, admitted, afterSetup}
 use Rattle.card.proofs.Keeping.{Whole}

@@ -14,7 +14,7 @@ use Rattle.frame.specs.declared.codes.Command.{Command}
 use Rattle.frame.specs.declared.codes.Command.the-variants.{Enq, Dat, Rec, Ech, Aut, Eos, Aso, Rso, Ib, Drj, Arj, Trf, Trb, Tra, Pre, Sel}
 use Rattle.frame.specs.declared.content.Fields.{Fields}
 use Rattle.frame.specs.Codes.{codeOf}
-use Rattle.card.specs.Soundness.{broadcast}
+use Rattle.frame.specs.Addresses.{broadcast}
 use Rattle.card.specs.declared.Card.{Card}
 use Rattle.card.specs.Frames.{oneOf, taken, silent, respond, onFrame}
 

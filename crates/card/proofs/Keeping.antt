@@ -1,7 +1,7 @@
 -- What every call on a sound card comes to: a sound card again, no refusal with 12, and after a refusal no more than the receiver and the
 -- phase another. By cases on the call, the receiver's outcome and the command.
 use Prim.Native.Nat.{ℕ, _≤_}
-use mathlib.Core.Path.{_≡_, refl, _∙_}
+use mathlib.Core.Path.{_≡_, refl, ap, _∙_}
 use mathlib.Core.Bool.{Bool, true, false, cond, _&&_}
 use mathlib.Core.List.{List, []}
 use mathlib.Core.Logic.{_⊎_, inl, inr}
@@ -20,6 +20,7 @@ use Rattle.records.specs.declared.Access.{Access}
 use Rattle.records.specs.declared.Access.the-variants.{Meter, Programming, Transfer}
 use Rattle.records.specs.declared.Refusal.{Refusal}
 use Rattle.records.specs.declared.Refusal.the-variants.{TooLong, IllFormed, TooManyCharacters, NoRecord, NotOpen}
+use Rattle.records.specs.declared.Records.{Records}
 use Rattle.records.specs.Numbers.{refusalNumber}
 use Rattle.records.specs.declared.Found.{Found}
 use Rattle.records.specs.declared.Found.the-variants as found
@@ -39,7 +40,7 @@ use Rattle.card.specs.declared.Card.{Card}
 use Rattle.card.specs.declared.Answer.{Answer}
 use Rattle.card.specs.declared.Answer.the-variants.{Nothing, BadFrame, Refused, BrokenRule, WrongCipher, WrongLength}
 use Rattle.card.specs.Numbers.{numberOf}
-use Rattle.card.specs.Parts.{withRecords, Response, responding}
+use Rattle.card.specs.Parts.{withRecords, answering, Response, responding}
 use Rattle.card.specs.Soundness.{sound, Sound}
 use Rattle.card.specs.Frames.{taken, idle, writeAnswer, written, settled, enqFor, onEnq, onRec, authentic, autIn, onAut, onTrf, onTrb, onIb, respond, onFrame, waitingFor}
 use Rattle.card.specs.Events.{Call, Octet, Gap, SessionEnd, MeterWrite, eventAnswer, afterStep, heardAs, heard, afterOctet, afterGap, afterSessionEnd, afterMeterWrite, after}
@@ -289,3 +290,16 @@ broken-unmade c e (Octet o number room) = rw e (go (eqb (length number) 8 && leb
 broken-unmade c e Gap = rw e (refl, refl)
 broken-unmade c e SessionEnd = rw e (refl, refl)
 broken-unmade c e (MeterWrite t d) = rw e (refl, refl)
+
+-- 01, Numbers handed back: a meter write that is refused leaves the whole card
+pub meter-write-refused : (c : Card) (t : ℕ) (d : List ℕ) → (numberOf (afterMeterWrite c t d .answer) ≡ 0 → ⊥) → afterMeterWrite c t d .card ≡ c
+unfolding afterMeterWrite written
+meter-write-refused c t d = by (sound c)
+  where
+    go : (a : WriteAnswer) → write (c .records) Meter t d .answer ≡ a → (numberOf (writeAnswer a) ≡ 0 → ⊥) → withRecords (write (c .records) Meter t d .records) c ≡ c
+    go write-answer.Accepted e n = absurd (n refl)
+    go (write-answer.Refused refusal) e n = ap (λ (s : Records). withRecords s c) (write-refused (c .records) Meter t d refusal e)
+
+    by : (b : Bool) → (numberOf (cond b (written c Meter t d) (answering c BrokenRule) .answer) ≡ 0 → ⊥) → cond b (written c Meter t d) (answering c BrokenRule) .card ≡ c
+    by true n = go (write (c .records) Meter t d .answer) refl n
+    by false n = refl

@@ -17,7 +17,7 @@ use Rattle.records.specs.declared.Found.{Found}
 use Rattle.records.specs.declared.Found.the-variants as found
 use Rattle.records.specs.Finding.{attributesOf, findReadable}
 use Rattle.records.specs.Writing.{write}
-use Rattle.receiver.specs.Receiving.{Reception, Awaiting, Outcome, Silent, Dropped, Complete, to, onOctet, onGap}
+use Rattle.receiver.specs.Receiving.{Reception, Awaiting, Outcome, Silent, Dropped, Complete, onOctet, onGap}
 use Rattle.receiver.specs.Receiver.{receptionOf, holding}
 use Rattle.receiver.proofs.Soundness.{SoundReception, reception-sound}
 use Rattle.receiver.proofs.Follows.{octet-keeps, gap-keeps}

@@ -8,7 +8,8 @@ use Rattle.records.proofs.Soundness as records-laws
 use Rattle.receiver.specs.Receiver as receiver
 use Rattle.receiver.proofs.Soundness as receiver-laws
 use Rattle.card.specs.declared.Card.{Card}
-use Rattle.card.specs.Soundness.{broadcast, waitingLength, fitting, sound, Sound}
+use Rattle.frame.specs.Addresses.{broadcast}
+use Rattle.card.specs.Soundness.{waitingLength, fitting, sound, Sound}
 
 module _ (c : Card) where
   sound-of : sound c ≡ true → Sound c

@@ -1,6 +1,6 @@
 -- What a card does with a whole good frame (01, The card).
 use Prim.Native.Nat.{ℕ}
-use mathlib.Core.Path.{_≡_, refl}
+use mathlib.Core.Path.{refl}
 use mathlib.Core.Bool.{Bool, false, cond, _&&_, _||_}
 use mathlib.Core.List.{List, [], _∷_}
 use lib.Dec.{eqb}
@@ -8,7 +8,6 @@ use lib.ListN.{length, take}
 use Rattle.octets.specs.Splice.{fronted}
 use Rattle.octets.specs.Part.{same}
 use Rattle.des.specs.Des.{encipher}
-use Rattle.label.specs.declared.Octets.{Octets}
 use Rattle.frame.specs.declared.codes.Command.{Command}
 use Rattle.frame.specs.declared.codes.Command.the-variants.{Enq, Dat, Rec, Ech, Aut, Eos, Aso, Rso, Ib, Drj, Arj, Trf, Trb, Tra, Pre, Sel}
 use Rattle.frame.specs.declared.content.Fields.{Fields}
@@ -32,7 +31,7 @@ use Rattle.card.specs.declared.Answer.the-variants.{Nothing, BadFrame, B
 use Rattle.card.specs.declared.Answered.{Answered}
 use Rattle.card.specs.Numbers.{numbered}
 use Rattle.card.specs.Parts.{inPhase, withRecords, answering, Response, responding}
-use Rattle.card.specs.Soundness.{broadcast}
+use Rattle.frame.specs.Addresses.{broadcast}
 
 -- whether a command with this code is one of these
 unfoldable pub oneOf : List Command → ℕ → Bool
@@ -154,8 +153,3 @@ respond Sel c number f d = silent c
 
 unfoldable pub onFrame : Card → List ℕ → Command → Fields → List ℕ → Response
 onFrame c number command f d = cond (taken (c .address) command (f .ads)) (respond command c number f d) (silent c)
-
--- what sending a frame leaves in the lent buffer, and its length
-pub record Sends (frame before after : List ℕ) (sent : Octets) : Type 0 where
-  pub octets : sent ≡ record { 0 = length frame }
-  pub buffer : after ≡ fronted frame before

@@ -19,7 +19,7 @@ use Rattle.card.specs.declared.Answer.the-variants.{Nothing, BroadcastAd
 use Rattle.card.specs.declared.Answered.{Answered}
 use Rattle.card.specs.Numbers.{numbered}
 use Rattle.card.specs.Parts.{answering}
-use Rattle.card.specs.Soundness.{broadcast}
+use Rattle.frame.specs.Addresses.{broadcast}
 
 -- "Fresh, as setup leaves a card: receiver empty, no wait, first contents." The octets for a wait are free, and zero.
 abbrev pub fresh : List ℕ → List ℕ → Records → Card

@@ -2,19 +2,13 @@
 use Prim.Native.Nat.{ℕ, _≤_}
 use mathlib.Core.Path.{_≡_}
 use mathlib.Core.Bool.{Bool, false, not, _&&_}
-use mathlib.Core.List.{List}
 use lib.Dec.{leb}
-use lib.ListN.{replicate}
-use Rattle.octets.specs.Part.{same}
+use Rattle.frame.specs.Addresses.{broadcast}
 use Rattle.records.specs.Setup as records
 use Rattle.receiver.specs.Receiver as receiver
 use Rattle.card.specs.declared.Phase.{Phase}
 use Rattle.card.specs.declared.Phase.the-variants.{Idle, Waiting}
 use Rattle.card.specs.declared.Card.{Card}
-
--- 004 4.4.8: "There is only one broadcast physical address which is the general broadcast ADG coded as 000000000000"
-unfoldable pub broadcast : List ℕ → Bool
-broadcast address = same address (replicate 6 0)
 
 -- how many octets of DATA wait
 abbrev pub waitingLength : Phase → ℕ

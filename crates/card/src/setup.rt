@@ -1,6 +1,5 @@
 // Setup (01, The card).
 ghost use mathlib.Core.Path.{_≡_};
-ghost use lib.ListN.{length};
 ghost use Rattle.card.specs.Setup.{bare, fresh, refusedSetup, admitted, afterSetup};
 use crate::Answer;
 use crate::Answered;

@@ -1,6 +1,7 @@
 // The cards that no call refuses with 12.
 ghost use mathlib.Core.Path.{_≡_};
-ghost use Rattle.card.specs.Soundness.{broadcast, fitting, sound};
+ghost use Rattle.frame.specs.Addresses.{broadcast};
+ghost use Rattle.card.specs.Soundness.{fitting, sound};
 use crate::Card;
 use crate::Phase;
 

@@ -8,7 +8,7 @@ use borrow.Author.Tests.{le-leb, eq-eqb}
 use Rattle.records.specs.declared.Answer.the-variants.{Accepted}
 use Rattle.records.specs.Finding.{used}
 use Rattle.records.specs.Setup.{keepsRules, contentsAnswers}
-use Rattle.card.specs.Soundness.{broadcast}
+use Rattle.frame.specs.Addresses.{broadcast}
 use Rattle.card.specs.Setup.{admittedWith, admitted}
 use Rattle.card_memory.specs.Decoding.{size}
 use Rattle.card_memory.specs.Setup.{entryRecords, entryMarksInUse, setUp}

@@ -28,8 +28,14 @@ module _ (m : List ℕ) where
   unfolding soundMemory
   marked e = rw e
 
+  pub unsound : size ≤ length m → soundMemory m ≡ false → (made : Outcome) → called m made ≡ refused 12 m
+  unsound h e made = rw (le-leb size (length m) h, e)
+
+  pub sound-called : size ≤ length m → soundMemory m ≡ true → (made : Outcome) → called m made ≡ made
+  sound-called h e made = rw (le-leb size (length m) h, e)
+
   pub out-of-use : size ≤ length m → marksInUse m ≡ false → (made : Outcome) → called m made ≡ refused 12 m
-  out-of-use h e made = rw (le-leb size (length m) h, unmarked e)
+  out-of-use h e made = unsound h (unmarked e) made
 
   -- a card by value is refused with 12 exactly if it is not sound
   pub settled : size ≤ length m → marksInUse m ≡ true → (a : Answered) (k : Call) → numberOf (a .answer) ≡ numberOf (after (decoded m) k .answer)

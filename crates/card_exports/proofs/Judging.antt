@@ -15,7 +15,7 @@ use Rattle.card.specs.declared.Answer.the-variants.{BroadcastAddress, BrokenRul
 use Rattle.card.specs.declared.Card.{Card}
 use Rattle.card.specs.declared.Answered.{Answered}
 use Rattle.card.specs.Numbers.{numberOf}
-use Rattle.card.specs.Soundness.{broadcast}
+use Rattle.frame.specs.Addresses.{broadcast}
 use Rattle.card.specs.Setup.{fresh, refusedSetup, admittedWith, admitted, afterSetup}
 use Rattle.card_memory.specs.Setup.{entryRecords, entryMarksInUse}
 use Rattle.card_exports.specs.Setup.{judged, setupNumber}

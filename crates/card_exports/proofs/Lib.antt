@@ -1,5 +1,6 @@
 mod Calls
-mod Loans
+mod OctetCall
 mod Judging
 mod Finding
 pub mod Accepting
+pub mod Unchanged

@@ -52,8 +52,8 @@ unfoldable pub meterWriteOutcome : List ℕ → ℕ → List ℕ → Outcome
 meterWriteOutcome m tab d = called m (done m (afterMeterWrite (decoded m) tab d))
 
 -- 17: "reply or frame buffer under 128 octets, card memory too short, a lent key or number not of 8 octets"
-abbrev pub loanFits : ℕ → ℕ → ℕ → Bool
-loanFits room number reply = leb size room && (eqb number 8 && leb 128 reply)
+abbrev pub lengthsFit : ℕ → ℕ → ℕ → Bool
+lengthsFit room na2 reply = leb size room && (eqb na2 8 && leb 128 reply)
 
 abbrev pub unreplied : ℕ → List ℕ → List ℕ → Replied
 unreplied number m reply = record { number = number; memory = m; reply = reply; length = 0 }
@@ -63,12 +63,13 @@ abbrev pub replied : List ℕ → List ℕ → Response → Replied
 replied m reply r =
     record { number = numberOf (r .answer); memory = encoded (r .card) m; reply = fronted (r .reply) reply; length = length (r .reply) }
 
+-- "NA2 is the 8-octet number lent by the host with that event"
 unfoldable pub octetOutcome : List ℕ → ℕ → List ℕ → List ℕ → Replied
-octetOutcome m o number reply =
-    cond (loanFits (length m) (length number) (length reply))
-    (cond (soundMemory m) (replied m reply (afterOctet (decoded m) o number (length reply))) (unreplied 12 m reply))
+octetOutcome m o na2 reply =
+    cond (lengthsFit (length m) (length na2) (length reply))
+    (cond (soundMemory m) (replied m reply (afterOctet (decoded m) o na2 (length reply))) (unreplied 12 m reply))
     (unreplied 17 m reply)
 
--- what a card by value gave, in memory whose marks are in use: 12 leaves the memory
+-- For the private `finish` alone: what a card by value gave, in memory whose marks are in use; 12 leaves the memory.
 unfoldable pub finished : List ℕ → Answered → Outcome
 finished m a = cond (eqb (numberOf (a .answer)) 12) (refused 12 m) (done m a)

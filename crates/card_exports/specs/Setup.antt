@@ -5,13 +5,13 @@ use mathlib.Core.List.{List}
 use lib.Dec.{eqb, leb}
 use lib.ListN.{length}
 use Rattle.card.specs.Numbers.{numberOf}
-use Rattle.card.specs.Soundness.{broadcast}
+use Rattle.frame.specs.Addresses.{broadcast}
 use Rattle.card.specs.Setup.{admitted}
 use Rattle.card_memory.specs.Decoding.{size}
 use Rattle.card_memory.specs.Setup.{entryRecords, entryMarksInUse, setUp}
 use Rattle.card_exports.specs.Outcome.{Outcome, refused}
 
--- the number of setup's answer where marks not in use count as a broken rule: 17 and 6 come before
+-- For the private `judge` alone: the number of setup's answer where marks not in use count as a broken rule; 17 and 6 come before.
 abbrev pub judged : ℕ → Bool → ℕ
 judged number inUse = cond (eqb number 17) 17 (cond (eqb number 6) 6 (cond inUse number 12))
 

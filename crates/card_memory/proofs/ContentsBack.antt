@@ -7,7 +7,7 @@ use lib.ListN.{length, getD}
 use lib.Seq.{ext-getD}
 use Rattle.octets.specs.Splice.{spliced}
 use Rattle.octets.specs.Part.{partOf}
-use Rattle.octets.proofs.Splice.{length-spliced, getD-in-spliced}
+use Rattle.octets.proofs.Splice.{length-spliced, getD-in-spliced, getD-before-spliced}
 use Rattle.octets.proofs.Parts.{length-part, getD-part, part-agree}
 use Rattle.records.specs.declared.Record.{Record}
 use Rattle.records.specs.Finding.{blank}
@@ -16,7 +16,7 @@ use Rattle.receiver_memory.proofs.Fields.{field-part, narrowed-fits}
 use Rattle.card_memory.specs.Decoding.{attributesIn, recordIn, recordsIn}
 use Rattle.card_memory.specs.Encoding.{contentsImage, withContents}
 use Rattle.card_memory.specs.Marks.{marksFrom}
-use Rattle.card_memory.proofs.Splices.{before, past}
+use Rattle.card_memory.proofs.Splices.{past}
 
 -- the attributes of a record stand in the memory, and its contents fit there
 pub record Fits (m : List ℕ) (at : ℕ) (r : Record) : Type 0 where
@@ -54,7 +54,7 @@ module _ (m : List ℕ) (at : ℕ) (r : Record) (room : at + 122 ≤ length m) (
   put-length = length-spliced m (at + 5) (contentsImage r) h
 
   pub put-before : (j : ℕ) → j < at + 5 → getD put j 0 ≡ getD m j 0
-  put-before = before m (at + 5) (contentsImage r) h
+  put-before = getD-before-spliced m (at + 5) (contentsImage r) h
 
   pub put-past : Agree (at + 122) put m
   put-past j k = past m (at + 5) (contentsImage r) h j (omega (arith, ends))

@@ -6,5 +6,6 @@ pub mod Splices
 pub mod ContentsBack
 pub mod StationBack
 pub mod RoundTrip
-pub mod Carrying
+pub mod EncodableCards
 pub mod Refusing
+pub mod Memory

@@ -25,7 +25,7 @@ use Rattle.card.proofs.Keeping.{Unchanged}
 use Rattle.card_memory.specs.Decoding.{size, recordIn, phaseIn, decoded}
 use Rattle.card_memory.specs.Encoding.{encoded}
 use Rattle.card_memory.proofs.RecordRuns.{record-at}
-use Rattle.card_memory.proofs.RoundTrip.{Carried, encoded-length, encoded-front, encoded-attributes, encoded-past, encoded-idle, decoded-encoded}
+use Rattle.card_memory.proofs.RoundTrip.{Encodable, encoded-length, encoded-front, encoded-attributes, encoded-past, encoded-idle, decoded-encoded}
 
 -- two memories that hold the same wait have its ADP, TAB and length alike
 record Alike (a t n x y z : ℕ) : Type 0 where
@@ -46,15 +46,15 @@ storage-octet s a room k low high =
     ∙ getD-part (partOf s a (a + 122)) 6 122 (k - 6) (omega (arith, n)) (omega arith)
     ∙ (rw e (getD-part s a (a + 122) k room (omega arith)))
 
-module _ (m : List ℕ) (h : size ≤ length m) (d : Card) (carried : Carried m d) (same : Unchanged (decoded m) d) where
+module _ (m : List ℕ) (h : size ≤ length m) (d : Card) (encodable : Encodable m d) (same : Unchanged (decoded m) d) where
   abbrev left : List ℕ
   left = encoded d m
 
   as-long : length left ≡ length m
-  as-long = encoded-length m h d carried
+  as-long = encoded-length m h d encodable
 
   back : decoded left ≡ d
-  back = decoded-encoded m h d carried
+  back = decoded-encoded m h d encodable
 
   -- a field that holds what it held
   field-kept : (n at : ℕ) → at + n ≤ length m → fieldAt n left at ≡ fieldAt n m at → (j : ℕ) → at ≤ j → j < at + n → getD left j 0 ≡ getD m j 0
@@ -75,7 +75,7 @@ module _ (m : List ℕ) (h : size ≤ length m) (d : Card) (carried : Carried m 
 
   waits-on : (b : Bool) → eqb (getD m 15 0) 1 ≡ b → d .phase ≡ phaseIn m → (j : ℕ) → 15 < j → j < 19 → getD left j 0 ≡ getD m j 0
   unfolding phaseIn decoded
-  waits-on false t e j low high = encoded-idle m h d carried (rw t at e) j low high
+  waits-on false t e j low high = encoded-idle m h d encodable (rw t at e) j low high
   waits-on true t e j low high =
       let p : phaseIn left ≡ Waiting (getD m 16 0) (getD m 17 0) (record { 0 = getD m 18 0 }) = ap (λ (c : Card). c .phase) back ∙ (rw t at e) in
       let w = same-wait (eqb (getD left 15 0) 1) (getD left 16 0) (getD left 17 0) (getD left 18 0) (getD m 16 0) (getD m 17 0) (getD m 18 0) p in
@@ -92,7 +92,7 @@ module _ (m : List ℕ) (h : size ≤ length m) (d : Card) (carried : Carried m 
     where
       by : (d .phase ≡ phaseIn m) ⊎ (d .phase ≡ Idle) → getD left j 0 ≡ getD m j 0
       by (inl e) = waits-on (eqb (getD m 15 0) 1) refl e j low high
-      by (inr e) = encoded-idle m h d carried e j low high
+      by (inr e) = encoded-idle m h d encodable e j low high
 
   record-same : (i : ℕ) → i < 32 → recordIn (partOf left (256 + 122 * i) (256 + 122 * i + 122)) ≡ recordIn (partOf m (256 + 122 * i) (256 + 122 * i + 122))
   unfolding decoded
@@ -106,7 +106,7 @@ module _ (m : List ℕ) (h : size ≤ length m) (d : Card) (carried : Carried m 
   record-octet i k lt high = pick (decLt k 5) (decLt 5 k)
     where
       pick : Dec (k < 5) → Dec (5 < k) → getD left (256 + 122 * i + k) 0 ≡ getD m (256 + 122 * i + k) 0
-      pick (yes q) r = encoded-attributes m h d carried i k lt q
+      pick (yes q) r = encoded-attributes m h d encodable i k lt q
       pick (no q) (yes r) =
           sym (storage-octet left (256 + 122 * i) (omega (arith, as-long)) k (omega arith) high)
           ∙ ap (λ (x : Record). getD (x .storage) (k - 6) 0) (record-same i lt)
@@ -122,7 +122,7 @@ module _ (m : List ℕ) (h : size ≤ length m) (d : Card) (carried : Carried m 
   behind j low = pick (decLt j size)
     where
       pick : Dec (j < size) → getD left j 0 ≡ getD m j 0
-      pick (no q) = encoded-past m h d carried j (omega arith)
+      pick (no q) = encoded-past m h d encodable j (omega arith)
       pick (yes q) =
           let i = (j - 256) / 122 in
           let k = (j - 256) % 122 in
@@ -137,7 +137,7 @@ module _ (m : List ℕ) (h : size ≤ length m) (d : Card) (carried : Carried m 
   refusal-leaves j n (inl high) = pick (decLt j 15) (decLt j 19) (decLt j 119)
     where
       pick : Dec (j < 15) → Dec (j < 19) → Dec (j < 119) → getD left j 0 ≡ getD m j 0
-      pick (yes p) q r = encoded-front m h d carried j p
+      pick (yes p) q r = encoded-front m h d encodable j p
       pick (no p) (yes q) r = beyond (decLt 15 j)
         where
           beyond : Dec (15 < j) → getD left j 0 ≡ getD m j 0

@@ -23,7 +23,7 @@ use Rattle.card_memory.proofs.ContentsBack.{AllFit, fits-agree, content
 use Rattle.card_memory.proofs.StationBack.{Shaped, station-length, station-before, station-past, station-idle, receiver-part, na2-part, waiting-part, phase-back, wait-mark, receiver-mark}
 
 -- The memory holds what no call alters of the card, and has room for the rest.
-pub record Carried (m : List ℕ) (c : Card) : Type 0 where
+pub record Encodable (m : List ℕ) (c : Card) : Type 0 where
   pub address : c .address ≡ fieldAt 6 m 0
   pub key : c .key ≡ fieldAt 8 m 6
   pub count : c .records .count ≡ getD m 14 0
@@ -31,7 +31,7 @@ pub record Carried (m : List ℕ) (c : Card) : Type 0 where
   pub records : AllFit m 256 (c .records .each)
   pub shaped : Shaped c
 
-module _ (m : List ℕ) (h : size ≤ length m) (c : Card) (carried : Carried m c) where
+module _ (m : List ℕ) (h : size ≤ length m) (c : Card) (encodable : Encodable m c) where
   abbrev station : List ℕ
   station = withStation c m
 
@@ -39,15 +39,15 @@ module _ (m : List ℕ) (h : size ≤ length m) (c : Card) (carried : Carried m 
   each = c .records .each
 
   s-length : length station ≡ length m
-  s-length = station-length c m h (carried .shaped)
+  s-length = station-length c m h (encodable .shaped)
 
   room : 256 + 122 * length each ≤ length station
-  room = omega (arith, s-length, carried .each)
+  room = omega (arith, s-length, encodable .each)
 
   fit : AllFit station 256 each
   fit i k =
-      fits-agree station m (256 + 122 * i) (getD each i blank) s-length (omega (arith, s-length, carried .each))
-      (λ j p. station-past c m h (carried .shaped) j (omega arith)) (carried .records i k)
+      fits-agree station m (256 + 122 * i) (getD each i blank) s-length (omega (arith, s-length, encodable .each))
+      (λ j p. station-past c m h (encodable .shaped) j (omega arith)) (encodable .records i k)
 
   whole-length : length (withContents 256 each station) ≡ length station
   whole-length = contents-length each 256 station room fit
@@ -61,8 +61,8 @@ module _ (m : List ℕ) (h : size ≤ length m) (c : Card) (carried : Carried m 
   unfolding encoded
   low j k = contents-before each 256 station room fit j (omega arith)
 
-  lowest : (j : ℕ) → j < 15 → getD (encoded c m) j 0 ≡ getD m j 0
-  lowest j k = low j (omega arith) ∙ station-before c m h (carried .shaped) j k
+  pub encoded-front : (j : ℕ) → j < 15 → getD (encoded c m) j 0 ≡ getD m j 0
+  encoded-front j k = low j (omega arith) ∙ station-before c m h (encodable .shaped) j k
 
   part-low : (a e : ℕ) → e ≤ 256 → partOf (encoded c m) a e ≡ partOf station a e
   part-low a e k = part-agree (encoded c m) station a e (encoded-length ∙ sym s-length) (λ i p q. low i (omega arith))
@@ -71,37 +71,37 @@ module _ (m : List ℕ) (h : size ≤ length m) (c : Card) (carried : Carried m 
   front : (n at : ℕ) → at + n ≤ 15 → fieldAt n (encoded c m) at ≡ fieldAt n m at
   front n at k =
       field-part n (encoded c m) at (omega (arith, encoded-length))
-      ∙ part-agree (encoded c m) m at (at + n) encoded-length (λ i p q. lowest i (omega arith))
+      ∙ part-agree (encoded c m) m at (at + n) encoded-length (λ i p q. encoded-front i (omega arith))
       ∙ sym (field-part n m at (omega arith))
 
   records-again : recordsIn 32 256 (encoded c m) ≡ each
   unfolding encoded
-  records-again = ap (λ (n : ℕ). recordsIn n 256 (withContents 256 each station)) (sym (carried .each)) ∙ records-back each 256 station room fit
+  records-again = ap (λ (n : ℕ). recordsIn n 256 (withContents 256 each station)) (sym (encodable .each)) ∙ records-back each 256 station room fit
 
   waiting-again : fieldAt 100 (encoded c m) 19 ≡ c .waiting
-  waiting-again = field-part 100 (encoded c m) 19 (omega (arith, encoded-length)) ∙ part-low 19 119 (omega arith) ∙ waiting-part c m h (carried .shaped)
+  waiting-again = field-part 100 (encoded c m) 19 (omega (arith, encoded-length)) ∙ part-low 19 119 (omega arith) ∙ waiting-part c m h (encodable .shaped)
 
   na2-again : fieldAt 8 (encoded c m) 119 ≡ c .na2
-  na2-again = field-part 8 (encoded c m) 119 (omega (arith, encoded-length)) ∙ part-low 119 127 (omega arith) ∙ na2-part c m h (carried .shaped)
+  na2-again = field-part 8 (encoded c m) 119 (omega (arith, encoded-length)) ∙ part-low 119 127 (omega arith) ∙ na2-part c m h (encodable .shaped)
 
   receiver-again : receiver.decoded (partOf (encoded c m) 127 256) ≡ c .receiver
   receiver-again =
-      ap receiver.decoded (part-low 127 256 (omega arith) ∙ receiver-part c m h (carried .shaped))
-      ∙ decoded-image (c .receiver) (carried .shaped .octets) (carried .shaped .counted)
+      ap receiver.decoded (part-low 127 256 (omega arith) ∙ receiver-part c m h (encodable .shaped))
+      ∙ decoded-image (c .receiver) (encodable .shaped .octets) (encodable .shaped .counted)
 
   phase-again : phaseIn (encoded c m) ≡ c .phase
-  phase-again = phase-back c m h (carried .shaped) (encoded c m) low
+  phase-again = phase-back c m h (encodable .shaped) (encoded c m) low
 
   pub decoded-encoded : decoded (encoded c m) ≡ c
   unfolding decoded
   decoded-encoded =
       rw (
         front 6 0 (omega arith),
-        ← carried .address,
+        ← encodable .address,
         front 8 6 (omega arith),
-        ← carried .key,
-        lowest 14 (omega arith),
-        ← carried .count,
+        ← encodable .key,
+        encoded-front 14 (omega arith),
+        ← encodable .count,
         records-again,
         phase-again,
         waiting-again,
@@ -112,26 +112,23 @@ module _ (m : List ℕ) (h : size ≤ length m) (c : Card) (carried : Carried m 
   -- What encoding leaves as it was: address, key and count; TAB, kind, limits and marks of every record; octets past the layout; and while nothing
   -- waits, the wait's ADP, TAB and length. The other free octets stand in the card's arrays, where a call
   -- alters them only by giving them a meaning.
-  pub encoded-front : (j : ℕ) → j < 15 → getD (encoded c m) j 0 ≡ getD m j 0
-  encoded-front = lowest
-
   pub encoded-attributes : (i j : ℕ) → i < 32 → j < 5 → getD (encoded c m) (256 + 122 * i + j) 0 ≡ getD m (256 + 122 * i + j) 0
   unfolding encoded
   encoded-attributes i j k q =
-      contents-fixed each 256 station room fit i j (omega (arith, carried .each)) q ∙ station-past c m h (carried .shaped) (256 + 122 * i + j) (omega arith)
+      contents-fixed each 256 station room fit i j (omega (arith, encodable .each)) q ∙ station-past c m h (encodable .shaped) (256 + 122 * i + j) (omega arith)
 
   pub encoded-past : (j : ℕ) → size ≤ j → getD (encoded c m) j 0 ≡ getD m j 0
   unfolding encoded
-  encoded-past j k = contents-past each 256 station room fit j (omega (arith, carried .each)) ∙ station-past c m h (carried .shaped) j (omega arith)
+  encoded-past j k = contents-past each 256 station room fit j (omega (arith, encodable .each)) ∙ station-past c m h (encodable .shaped) j (omega arith)
 
   pub encoded-idle : c .phase ≡ Idle → (j : ℕ) → 15 < j → j < 19 → getD (encoded c m) j 0 ≡ getD m j 0
-  encoded-idle e j k l = low j (omega arith) ∙ station-idle c m h (carried .shaped) e j k l
+  encoded-idle e j k l = low j (omega arith) ∙ station-idle c m h (encodable .shaped) e j k l
 
   marks-again : (n : ℕ) → n ≤ 32 → marksFrom n 256 (encoded c m) ≡ marksFrom n 256 m
   unfolding encoded
   marks-again n k =
-      marks-kept each n 256 station (omega (arith, carried .each)) room fit
-      ∙ marks-agree n 256 station m (λ j p. station-past c m h (carried .shaped) j p)
+      marks-kept each n 256 station (omega (arith, encodable .each)) room fit
+      ∙ marks-agree n 256 station m (λ j p. station-past c m h (encodable .shaped) j p)
 
   -- the marks of the encoded card are in use where those of the records were
   pub encoded-marks : marksInUse m ≡ true → marksInUse (encoded c m) ≡ true
@@ -139,5 +136,5 @@ module _ (m : List ℕ) (h : size ≤ length m) (c : Card) (carried : Carried m 
   encoded-marks e =
       let first = and-eq-true-iff (leb (getD m 15 0) 1) (leb (getD m 127 0) 1 && marksFrom (min (getD m 14 0) 32) 256 m) .0 e .1 in
       let own = and-eq-true-iff (leb (getD m 127 0) 1) (marksFrom (min (getD m 14 0) 32) 256 m) .0 first .1 in
-      rw (low 15 (omega arith), wait-mark c m h (carried .shaped), low 127 (omega arith), receiver-mark c m h (carried .shaped), lowest 14 (omega arith))
+      rw (low 15 (omega arith), wait-mark c m h (encodable .shaped), low 127 (omega arith), receiver-mark c m h (encodable .shaped), encoded-front 14 (omega arith))
       (marks-again (min (getD m 14 0) 32) (omega arith) ∙ own)

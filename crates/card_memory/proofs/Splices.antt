@@ -1,5 +1,5 @@
 -- What a splice leaves outside of itself, and holds inside.
-use Prim.Native.Nat.{ℕ, _+_, _-_, _≤_, _<_}
+use Prim.Native.Nat.{ℕ, _+_, _-_, _≤_}
 use mathlib.Core.Path.{_≡_, _∙_}
 use mathlib.Core.List.{List}
 use native.Mathlib.Omega.{arith}
@@ -10,9 +10,6 @@ use Rattle.octets.proofs.Splice.{length-spliced, in-spliced, getD-before-splice
 use Rattle.octets.proofs.Parts.{part-there, part-agree}
 
 module _ (m : List ℕ) (at : ℕ) (s : List ℕ) (h : at + length s ≤ length m) where
-  pub before : (j : ℕ) → j < at → getD (spliced m at s) j 0 ≡ getD m j 0
-  before j k = getD-before-spliced m at s h j k
-
   pub past : (j : ℕ) → at + length s ≤ j → getD (spliced m at s) j 0 ≡ getD m j 0
   past j k =
       let e : at + length s + (j - (at + length s)) ≡ j = omega arith in
@@ -24,7 +21,7 @@ module _ (m : List ℕ) (at : ℕ) (s : List ℕ) (h : at + length s ≤ length 
       part-there (spliced m at s) at e (omega (arith, length-spliced m at s h)) ∙ rw n (in-spliced m at s h)
 
   pub part-before : (a e : ℕ) → e ≤ at → partOf (spliced m at s) a e ≡ partOf m a e
-  part-before a e k = part-agree (spliced m at s) m a e (length-spliced m at s h) (λ i p q. before i (omega arith))
+  part-before a e k = part-agree (spliced m at s) m a e (length-spliced m at s h) (λ i p q. getD-before-spliced m at s h i (omega arith))
 
   pub part-past : (a e : ℕ) → at + length s ≤ a → partOf (spliced m at s) a e ≡ partOf m a e
   part-past a e k = part-agree (spliced m at s) m a e (length-spliced m at s h) (λ i p q. past i (omega arith))

@@ -8,7 +8,7 @@ use lib.Dec.{leb}
 use lib.ListN.{length, getD}
 use Rattle.octets.specs.Splice.{spliced}
 use Rattle.octets.specs.Part.{partOf}
-use Rattle.octets.proofs.Splice.{length-spliced, getD-in-spliced}
+use Rattle.octets.proofs.Splice.{length-spliced, getD-in-spliced, getD-before-spliced}
 use Rattle.receiver_memory.specs.Fields.{markOf}
 use Rattle.receiver_memory.specs.Receiver as receiver
 use Rattle.receiver_memory.proofs.Fields.{narrowed-fits}
@@ -19,7 +19,7 @@ use Rattle.card.specs.declared.Card.{Card}
 use Rattle.card.specs.Soundness.{waitingLength}
 use Rattle.card_memory.specs.Decoding.{size, phaseIn}
 use Rattle.card_memory.specs.Encoding.{phaseImage, withStation}
-use Rattle.card_memory.proofs.Splices.{before, past, part-inside, part-before}
+use Rattle.card_memory.proofs.Splices.{past, part-inside, part-before}
 
 phase-length : (p : Phase) → length (phaseImage p) ≤ 4
 phase-length Idle = omega arith
@@ -82,8 +82,8 @@ module _ (c : Card) (m : List ℕ) (h : size ≤ length m) (shaped : Shaped c) w
   unfolding m1 m2 m3
   station-before j k =
       rw station-is
-      (before m3 127 (receiver.image (c .receiver)) h4 j (omega arith) ∙ before m2 119 (c .na2) h3 j (omega arith)
-      ∙ before m1 19 (c .waiting) h2 j (omega arith) ∙ before m 15 (phaseImage (c .phase)) h1 j k)
+      (getD-before-spliced m3 127 (receiver.image (c .receiver)) h4 j (omega arith) ∙ getD-before-spliced m2 119 (c .na2) h3 j (omega arith)
+      ∙ getD-before-spliced m1 19 (c .waiting) h2 j (omega arith) ∙ getD-before-spliced m 15 (phaseImage (c .phase)) h1 j k)
 
   pub station-past : (j : ℕ) → 256 ≤ j → getD (withStation c m) j 0 ≡ getD m j 0
   unfolding m1 m2 m3
@@ -113,8 +113,8 @@ module _ (c : Card) (m : List ℕ) (h : size ≤ length m) (shaped : Shaped c) w
   unfolding m1 m2 m3
   wait-octet j k =
       rw station-is
-      (before m3 127 (receiver.image (c .receiver)) h4 (15 + j) (omega (arith, phase-length (c .phase))) ∙ before m2 119 (c .na2) h3 (15 + j) (omega (arith, phase-length (c .phase)))
-      ∙ before m1 19 (c .waiting) h2 (15 + j) (omega (arith, phase-length (c .phase))) ∙ getD-in-spliced m 15 (phaseImage (c .phase)) h1 j k)
+      (getD-before-spliced m3 127 (receiver.image (c .receiver)) h4 (15 + j) (omega (arith, phase-length (c .phase))) ∙ getD-before-spliced m2 119 (c .na2) h3 (15 + j) (omega (arith, phase-length (c .phase)))
+      ∙ getD-before-spliced m1 19 (c .waiting) h2 (15 + j) (omega (arith, phase-length (c .phase))) ∙ getD-in-spliced m 15 (phaseImage (c .phase)) h1 j k)
 
   idle-length : c .phase ≡ Idle → length (phaseImage (c .phase)) ≡ 1
   idle-length e = rw e
@@ -124,8 +124,8 @@ module _ (c : Card) (m : List ℕ) (h : size ≤ length m) (shaped : Shaped c) w
   unfolding m1 m2 m3
   station-idle e j k l =
       rw station-is
-      (before m3 127 (receiver.image (c .receiver)) h4 j (omega arith) ∙ before m2 119 (c .na2) h3 j (omega arith)
-      ∙ before m1 19 (c .waiting) h2 j (omega arith) ∙ past m 15 (phaseImage (c .phase)) h1 j (omega (arith, idle-length e)))
+      (getD-before-spliced m3 127 (receiver.image (c .receiver)) h4 j (omega arith) ∙ getD-before-spliced m2 119 (c .na2) h3 j (omega arith)
+      ∙ getD-before-spliced m1 19 (c .waiting) h2 j (omega arith) ∙ past m 15 (phaseImage (c .phase)) h1 j (omega (arith, idle-length e)))
 
   phase-read : (s : List ℕ) (q : Phase) → waitingLength q < 256 → ((j : ℕ) → j < length (phaseImage q) → getD s (15 + j) 0 ≡ getD (phaseImage q) j 0) → phaseIn s ≡ q
   unfolding phaseIn

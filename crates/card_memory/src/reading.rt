@@ -22,15 +22,6 @@ fn storage(s: &[u8]) -> [u8; 116]
     a
 }
 
-// As `storage`, for 100.
-fn waiting(s: &[u8]) -> [u8; 100]
-    ensures { λ r. ⌜ r ≡ spliced (replicate 100 0) 0 (now (s .entry)) ⌝ }
-{
-    let mut a = [0u8; 100];
-    octets::put(&mut a, 0, s);
-    a
-}
-
 fn kind_for(kind: u8, limit: u8) -> Kind
     ensures { λ r. ⌜ r ≡ kindFor kind limit ⌝ }
 {
@@ -118,7 +109,7 @@ pub fn decode(memory: &[u8]) -> Card
 {
     let address = octets::six(octets::part(memory, 0, 6));
     let key = octets::eight(octets::part(memory, 6, 14));
-    let data = waiting(octets::part(memory, 19, 119));
+    let data = octets::hundred(octets::part(memory, 19, 119));
     let na2 = octets::eight(octets::part(memory, 119, 127));
     let receiver = receiver_memory::decode(octets::part(memory, 127, 256));
     Card {

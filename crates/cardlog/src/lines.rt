@@ -2,29 +2,34 @@
 use libc::STDOUT_FILENO;
 use records::Record;
 use records::Records;
+use text::put_number;
+use text::put_octets;
+use text::put_words;
 
-fn print(text: &[u8]) {
-    io::write_all(STDOUT_FILENO, text);
+// A line with its end; the longest has under 600 octets.
+fn print_line(line: &mut [u8], at: usize) {
+    let end = put_words(line, at, b"\n");
+    io::write_all(STDOUT_FILENO, octets::part(line, 0, end));
 }
 
 pub(crate) fn print_setup(number: u8) {
-    print(b"setup ");
-    io::print_decimal(STDOUT_FILENO, number as u64);
-    print(b"\n");
+    let mut line = [0u8; 64];
+    let next = put_number(&mut line, 0, b"setup ", number as u64);
+    print_line(&mut line, next);
 }
 
 // The index of a call and its number.
-fn print_head(index: u64, number: u8) {
-    io::print_decimal(STDOUT_FILENO, index);
-    print(b" ");
-    io::print_decimal(STDOUT_FILENO, number as u64);
+fn put_head(line: &mut [u8], index: u64, number: u8) -> usize {
+    let next = put_number(line, 0, b"", index);
+    put_number(line, next, b" ", number as u64)
 }
 
 // A call without a reply has a line where it gave a number.
 pub(crate) fn print_call(index: u64, number: u8) {
     if number != 0 {
-        print_head(index, number);
-        print(b"\n");
+        let mut line = [0u8; 64];
+        let next = put_head(&mut line, index, number);
+        print_line(&mut line, next);
     }
 }
 
@@ -34,12 +39,18 @@ pub(crate) fn print_octet(index: u64, number: u8, buffer: &[u8; 255], reply: usi
     if number == 0 && reply == 0 && kept {
         return;
     }
-    print_head(index, number);
-    print_octets(octets::part(buffer, 0, reply));
-    if !kept {
-        print(b" past");
+    let mut line = [0u8; 640];
+    let reply_at = put_head(&mut line, index, number);
+    let next = put_some(&mut line, reply_at, octets::part(buffer, 0, reply));
+    let end = put_past(&mut line, next, kept);
+    print_line(&mut line, end);
+}
+
+fn put_past(line: &mut [u8], at: usize, kept: bool) -> usize {
+    if kept {
+        return at;
     }
-    print(b"\n");
+    put_words(line, at, b" past")
 }
 
 // Whether all octets from an offset on are A5.
@@ -69,32 +80,17 @@ fn print_record(record: Record) {
     let attributes = record.attributes;
     let length = record.length;
     let storage = record.storage;
-    print(b"record");
-    print_octets(&[attributes.tab]);
-    print(b" ");
-    io::print_decimal(STDOUT_FILENO, length.0 as u64);
-    print_octets(octets::part(&storage, 0, length.0));
-    print(b"\n");
+    let mut line = [0u8; 640];
+    let length_at = put_octets(&mut line, 0, b"record ", &[attributes.tab]);
+    let octets_at = put_number(&mut line, length_at, b" ", length.0 as u64);
+    let next = put_some(&mut line, octets_at, octets::part(&storage, 0, length.0));
+    print_line(&mut line, next);
 }
 
-// A space and the octets, two digits for each; nothing where there are none.
-fn print_octets(s: &[u8]) {
-    if s.len() != 0 {
-        print(b" ");
+// A space and the octets; nothing where there are none.
+fn put_some(line: &mut [u8], at: usize, octets: &[u8]) -> usize {
+    if octets.len() == 0 {
+        return at;
     }
-    let mut i = 0;
-    while i < s.len() {
-        let octet = s[i];
-        print(&[digit(octet / 16), digit(octet % 16)]);
-        i += 1;
-    }
-}
-
-// A hexadecimal digit.
-fn digit(n: u8) -> u8 {
-    if n < 10 {
-        b'0' + n
-    } else {
-        b'A' + (n - 10) % 6
-    }
+    put_octets(line, at, b" ", octets)
 }

@@ -1,5 +1,5 @@
 // Records that were read, for the swap file's writer.
-use crate::text::print;
+use crate::line::print;
 use swap::Kind;
 use swap::Records;
 use swap_list::Added;

@@ -2,23 +2,27 @@
 use crate::exchange::Bus;
 use crate::exchange::exchange;
 use crate::gather::Gathered;
+use crate::line::print;
+use crate::line::print_number;
+use crate::line::print_octets;
 use crate::listing::count_of;
 use crate::listing::print_record;
 use crate::primary::Primary;
 use crate::primary::Stage;
 use crate::stations::FLAT;
 use crate::stations::FLAT_KEY;
+use crate::stations::address;
 use crate::stations::is_label;
 use crate::stations::new_room;
-use crate::text::print;
-use crate::text::print_count;
-use crate::text::print_field;
 use crate::wire::Damage;
 use swap::Entry;
 use swap::Kind;
 use swap::Next;
 use swap_station::next_for;
 use tool::Contents;
+
+// An index that no reading has.
+pub(crate) const UNDAMAGED: usize = 255;
 
 // A key that the fitter types wrong.
 const WRONG_KEY: [u8; 8] = [0x0E, 0x32, 0x92, 0x32, 0xEA, 0x6D, 0x0D, 0x73];
@@ -29,13 +33,15 @@ pub(crate) struct Readings {
     pub(crate) gathered: Gathered,
 }
 
-// Reads the records of a station that these TABs name.
-pub(crate) fn read_all(readings: Readings, ads: [u8; 6], tabs: &[u8], damage: Damage) -> Readings {
+// Reads records, each named by the last octet of its station's address and by its TAB. The reply to the reading with this index is damaged on the wire.
+pub(crate) fn read_all(readings: Readings, polls: &[u8], damaged: usize) -> Readings {
     let mut bus = readings.bus;
     let mut gathered = readings.gathered;
     let mut i = 0;
-    while i < tabs.len() {
-        let tab = tabs[i];
+    while i < polls.len() / 2 {
+        let ads = address(polls[2 * i]);
+        let tab = polls[2 * i + 1];
+        let damage = damage_at(i, damaged);
         i += 1;
         let cards = bus.cards;
         let primary = bus.primary;
@@ -46,6 +52,15 @@ pub(crate) fn read_all(readings: Readings, ads: [u8; 6], tabs: &[u8], damage: Da
     Readings {
         bus: bus,
         gathered: gathered,
+    }
+}
+
+// The octet at offset 10 is damaged in the reply with this index.
+fn damage_at(index: usize, damaged: usize) -> Damage {
+    if index == damaged {
+        Damage::At(10)
+    } else {
+        Damage::None
     }
 }
 
@@ -72,7 +87,7 @@ fn print_read(tab: u8, contents: Contents) {
     let octets = contents.octets;
     let length = contents.length;
     let data = octets::part(&octets, 0, length.0);
-    print_field(b"read  TAB ", &[tab]);
+    print_octets(b"read  TAB ", &[tab]);
     print_record(b" ", kind_of(tab), data, b"\n");
 }
 
@@ -105,14 +120,14 @@ fn program(bus: Bus, tab: u8, data: &[u8], key: [u8; 8]) -> Bus {
     let primary = bus.primary;
     let next = exchange(cards, primary.program(FLAT, tab, data, key), Damage::None);
     let heard = next.primary;
-    print_programmed(tab, heard);
+    let stage = heard.stage;
+    print_programmed(tab, stage);
     next
 }
 
-fn print_programmed(tab: u8, primary: Primary) {
-    let stage = primary.stage;
+fn print_programmed(tab: u8, stage: Stage) {
     if let Stage::Done = stage {
-        print_field(b"done  TAB ", &[tab]);
+        print_octets(b"done  TAB ", &[tab]);
         print(b" programmed\n");
     }
 }
@@ -133,7 +148,7 @@ fn fitted(file: &[u8], entry: Entry) -> &[u8] {
 }
 
 fn print_fit(tab: u8, old: &[u8], kept: &[u8]) {
-    print_field(b"fit   TAB ", &[tab]);
+    print_octets(b"fit   TAB ", &[tab]);
     print_record(b" ", Kind::Label, old, b" within ");
     print_room(tab);
     print_record(b": ", Kind::Label, kept, b"\n");
@@ -143,8 +158,8 @@ fn print_room(tab: u8) {
     let room = new_room(tab);
     let octets = room.octets;
     let characters = room.characters;
-    print_count(b"", octets.0);
-    print_count(b" and ", characters.0);
+    print_number(b"", octets.0);
+    print_number(b" and ", characters.0);
 }
 
 // The flat's records of two files side by side.
@@ -173,7 +188,7 @@ fn print_beside(old: &[u8], old_entry: Entry, new: &[u8], new_entry: Entry) {
     let new_kind = new_entry.kind;
     let old_data = swap::cursor::content(old, old_entry);
     let new_data = swap::cursor::content(new, new_entry);
-    print_field(b"TAB ", &[old_entry.tab]);
+    print_octets(b"TAB ", &[old_entry.tab]);
     print_record(b" old ", old_kind, old_data, b"   | new ");
     print_record(b"", new_kind, new_data, b"\n");
 }

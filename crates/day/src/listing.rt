@@ -1,8 +1,8 @@
 // Records and swap files as they are printed.
-use crate::text::print;
-use crate::text::print_count;
-use crate::text::print_field;
-use crate::text::print_wire_octets;
+use crate::line::print;
+use crate::line::print_number;
+use crate::line::print_octets;
+use crate::line::print_wire_octets;
 use label::Text;
 use swap::Entry;
 use swap::Kind;
@@ -11,7 +11,7 @@ use swap::Verdict;
 
 // A swap file's octets, and a line for each of its records.
 pub(crate) fn print_file(file: &[u8]) {
-    print_count(b"file  octets ", file.len());
+    print_number(b"file  octets ", file.len());
     print_wire_octets(file);
     print_entries(file);
 }
@@ -42,8 +42,8 @@ pub(crate) fn count_of(file: &[u8]) -> usize {
 fn print_entry(file: &[u8], entry: Entry) {
     let ads = swap::cursor::ads(file, entry);
     let kind = entry.kind;
-    print_field(b"file  ", &ads);
-    print_field(b" TAB ", &[entry.tab]);
+    print_octets(b"file  ", &ads);
+    print_octets(b" TAB ", &[entry.tab]);
     print_record(b" ", kind, swap::cursor::content(file, entry), b"\n");
 }
 
@@ -58,8 +58,8 @@ pub(crate) fn print_record(before: &[u8], kind: Kind, data: &[u8], after: &[u8])
 }
 
 fn print_raw(data: &[u8]) {
-    print_count(b"raw octets ", data.len());
-    print_field(b" ", data);
+    print_number(b"raw octets ", data.len());
+    print_octets(b" ", data);
 }
 
 // A label's two counts and its text.
@@ -68,8 +68,8 @@ fn print_label(data: &[u8]) {
     let Text::WellFormed(characters) = measured else {
         return;
     };
-    print_count(b"label octets ", data.len());
-    print_count(b" characters ", characters.0);
+    print_number(b"label octets ", data.len());
+    print_number(b" characters ", characters.0);
     print_quoted(data);
 }
 

@@ -2,25 +2,21 @@
 mod exchange;
 mod gather;
 mod hours;
+mod line;
 mod listing;
 mod numbers;
 mod primary;
 mod stations;
-mod text;
 mod wire;
-mod words;
 
 use card::Card;
 use exchange::Bus;
 use gather::File;
 use hours::Readings;
+use hours::UNDAMAGED;
 use hours::read_all;
-use stations::FLAT;
-use stations::SECOND;
-use stations::THIRD;
-use text::print;
+use line::print;
 use tool::Tool;
-use wire::Damage;
 
 fn main() {
     let morning = seven();
@@ -46,42 +42,58 @@ fn plugged(cards: [Card; 3], adp: u8) -> Readings {
     }
 }
 
-// The first reading of the holder's label is damaged on the wire.
+// The first reading of the holder's label, the third of all, is damaged on the wire.
 fn seven() -> Readings {
     print(b"07:00 the fitter reads the old card\n");
-    let raw = read_all(
-        plugged(stations::block(), 1),
-        FLAT,
-        &[0x01, 0x02],
-        Damage::None,
-    );
-    let damaged = read_all(raw, FLAT, &[0x0A], Damage::At(10));
-    read_all(damaged, FLAT, &[0x0A, 0x0B], Damage::None)
+    let polls = [0x66, 0x01, 0x66, 0x02, 0x66, 0x0A, 0x66, 0x0A, 0x66, 0x0B];
+    read_all(plugged(stations::block(), 1), &polls, 2)
 }
 
-// The new card takes the place and the address of the old one.
 fn ten(bus: Bus, file: File) -> Bus {
     print(b"\n10:00 the fitter programs the new card from the swap file\n");
     let octets = file.octets;
     let written = octets::part(&octets, 0, file.length);
     listing::print_file(written);
-    let mut swapped = bus;
-    swapped.cards[0] = stations::new_card();
-    hours::program_all(swapped, written)
+    hours::program_all(swapped(bus), written)
 }
 
-// The van has a tool and an ADP of its own.
+// The new card takes the place and the address of the old one.
+fn swapped(bus: Bus) -> Bus {
+    let mut next = bus;
+    next.cards[0] = stations::new_card();
+    next
+}
+
+// The van has a tool and an ADP of its own, and reads every record of the block.
 fn twelve(cards: [Card; 3]) -> Readings {
     print(b"\n12:00 the van polls the block\n");
-    let flat = read_all(
-        plugged(cards, 2),
-        FLAT,
-        &[0x01, 0x02, 0x0A, 0x0B],
-        Damage::None,
-    );
-    let second = read_all(flat, SECOND, &[0x01, 0x0A], Damage::None);
-    let third: [u8; 6] = [0x01, 0x02, 0x03, 0x04, 0x05, 0x06];
-    read_all(second, THIRD, &third, Damage::None)
+    let polls = [
+        0x66,
+        0x01,
+        0x66,
+        0x02,
+        0x66,
+        0x0A,
+        0x66,
+        0x0B,
+        0x77,
+        0x01,
+        0x77,
+        0x0A,
+        0x88,
+        0x01,
+        0x88,
+        0x02,
+        0x88,
+        0x03,
+        0x88,
+        0x04,
+        0x88,
+        0x05,
+        0x88,
+        0x06,
+    ];
+    read_all(plugged(cards, 2), &polls, UNDAMAGED)
 }
 
 fn night(old: File, new: File) {

@@ -1,7 +1,9 @@
 // The numbers of 01's table in words.
-use crate::text::print;
-use crate::text::print_count;
-use crate::text::print_field;
+ghost use Prim.Native.Nat.{_≤_};
+ghost use lib.ListN.{length};
+use crate::line::print;
+use crate::line::print_number;
+use crate::line::print_octets;
 
 // The tool's host gets a number; nothing is printed where there is none.
 pub(crate) fn print_tool(number: u8) {
@@ -14,50 +16,40 @@ pub(crate) fn print_tool(number: u8) {
 // The same for the host of the card with this address.
 pub(crate) fn print_card(ads: [u8; 6], number: u8) {
     if number != 0 {
-        print_field(b"card  ", &ads);
+        print_octets(b"card  ", &ads);
         print_refused(number);
     }
 }
 
 fn print_refused(number: u8) {
-    print_count(b" refused ", number as usize);
-    print(b" (");
-    if number < 12 {
-        print_early(number);
-    } else {
-        print_late(number);
-    }
-    print(b")\n");
+    print_number(b" refused ", number as usize);
+    print_reason(number);
 }
 
-// What is wrong with a frame, an address, data or a record.
-fn print_early(number: u8) {
-    match number {
-        1 => print(b"length N out of range"),
-        2 => print(b"CRC wrong"),
-        3 => print(b"gap inside a frame"),
-        4 => print(b"command not known"),
-        5 => print(b"length not of this command"),
-        6 => print(b"address of the wrong sort"),
-        7 => print(b"data too long"),
-        8 => print(b"ill-formed text"),
-        9 => print(b"too many characters"),
-        10 => print(b"no such record"),
-        _ => print(b"not open"),
-    }
+// The words of the number: a line of the reasons.
+fn print_reason(number: u8) {
+    let reasons =
+        b"\n (no number)\n (length N out of range)\n (CRC wrong)\n (gap inside a frame)\n (command not known)\n (length not of this command)\n (address of the wrong sort)\n (data too long)\n (ill-formed text)\n (too many characters)\n (no such record)\n (not open)\n (setup rule broken)\n (cipher wrong)\n (echo wrong)\n (session ended)\n (tool busy)\n (wrong length lent)\n (swap file faulty)\n (unexpected frame)\n (rejected)\n";
+    let count = number as usize;
+    let from = line_end(reasons, count);
+    let to = line_end(reasons, count + 1);
+    print(octets::part(reasons, from + 1, to + 1));
 }
 
-// What is wrong with a setup, an exchange, a call or a swap file.
-fn print_late(number: u8) {
-    match number {
-        12 => print(b"setup rule broken"),
-        13 => print(b"cipher wrong"),
-        14 => print(b"echo wrong"),
-        15 => print(b"session ended"),
-        16 => print(b"tool busy"),
-        17 => print(b"wrong length lent"),
-        18 => print(b"swap file faulty"),
-        19 => print(b"unexpected frame"),
-        _ => print(b"rejected"),
+// The offset of a line feed, counted from 0; the end of the lines where they have fewer.
+fn line_end(lines: &[u8], count: usize) -> usize
+    ensures { λ r. ⌜ r ≤ length (now (lines .entry)) ⌝ }
+{
+    let mut left = count;
+    let mut i = 0;
+    while i < lines.len() {
+        if lines[i] == b'\n' {
+            if left == 0 {
+                return i;
+            }
+            left -= 1;
+        }
+        i += 1;
     }
+    i
 }

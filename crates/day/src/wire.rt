@@ -1,10 +1,11 @@
 // The wire: what one station sends, all others hear, octet by octet.
 ghost use Prim.Native.Nat.{_<_};
+use crate::line::print;
+use crate::line::print_frame;
+use crate::line::print_number;
+use crate::line::print_octets;
 use crate::numbers::print_card;
-use crate::text::print;
-use crate::text::print_count;
-use crate::text::print_field;
-use crate::words::print_frame;
+use card::Answer;
 use card::Card;
 
 // The number that the host of a card lends with each octet. It is fixed, so that every day prints the same; a real host lends a fresh one that nobody can guess.
@@ -30,6 +31,13 @@ pub(crate) enum Damage {
 pub(crate) struct Cards {
     pub(crate) each: [Card; 3],
     pub(crate) reply: Sent,
+}
+
+// A card after an octet, and its reply: the first octets of an array.
+struct Heard {
+    card: Card,
+    octets: [u8; 128],
+    length: usize,
 }
 
 pub(crate) fn silence() -> Sent {
@@ -76,9 +84,9 @@ impl Sent {
 }
 
 fn print_damage(at: usize, old: u8) {
-    print_count(b"wire  octet ", at);
-    print_field(b" turns from ", &[old]);
-    print_field(b" to ", &[255 - old]);
+    print_number(b"wire  octet ", at);
+    print_octets(b" turns from ", &[old]);
+    print_octets(b" to ", &[255 - old]);
     print(b"\n");
 }
 
@@ -101,25 +109,40 @@ pub(crate) fn cards_hear(cards: [Card; 3], sent: Sent) -> Cards {
     now
 }
 
-// The card at a place hears an octet, and its host says which number it got.
+// The card at a place hears an octet.
 fn card_hears(cards: Cards, place: usize, octet: u8) -> Cards
     requires { ⌜ place < 3 ⌝ }
 {
     let mut each = cards.each;
-    let card = each[place];
-    let mut buffer = [0u8; 128];
-    let stepped = card.octet(octet, &NA2, &mut buffer);
-    let answer = stepped.answer;
-    let address = card.address;
-    print_card(address, answer.number());
-    let next = stepped.card;
-    each[place] = next;
     let before = cards.reply;
-    let reply = stepped.reply;
+    let heard = hears(each[place], octet);
+    let next = heard.card;
+    let octets = heard.octets;
+    each[place] = next;
     Cards {
         each: each,
-        reply: before.or(buffer, reply.0, place),
+        reply: before.or(octets, heard.length, place),
     }
+}
+
+// A card hears an octet, and its host says which number it got.
+fn hears(card: Card, octet: u8) -> Heard {
+    let mut buffer = [0u8; 128];
+    let stepped = card.octet(octet, &NA2, &mut buffer);
+    let next = stepped.card;
+    let answer = stepped.answer;
+    print_answer(card, answer);
+    let reply = stepped.reply;
+    Heard {
+        card: next,
+        octets: buffer,
+        length: reply.0,
+    }
+}
+
+fn print_answer(card: Card, answer: Answer) {
+    let address = card.address;
+    print_card(address, answer.number());
 }
 
 // Nothing more comes: the host of each card reports a session end.

@@ -1,5 +1,4 @@
 // Hexadecimal numbers of eight octets.
-use libc::STDOUT_FILENO;
 ghost use mathlib.Core.Path.{_≡_};
 ghost use Prim.Native.Nat.{_≤_};
 ghost use lib.ListN.{length};
@@ -47,22 +46,4 @@ pub(crate) fn number(field: &[u8]) -> [u8; 8]
         i += 1;
     }
     out
-}
-
-// The hexadecimal digit of the low four bits.
-fn glyph(n: u8) -> u8 {
-    let low = n % 16;
-    if low < 10 { low + 48 } else { low + 55 }
-}
-
-// Writes eight octets as sixteen hexadecimal digits.
-pub(crate) fn print_octets(octets: [u8; 8]) {
-    let mut text = [0u8; 16];
-    let mut i = 0;
-    while i < 8 {
-        text[2 * i] = glyph(octets[i] / 16);
-        text[2 * i + 1] = glyph(octets[i]);
-        i += 1;
-    }
-    io::write_all(STDOUT_FILENO, &text);
 }

@@ -7,6 +7,9 @@ mod tally;
 use libc::STDIN_FILENO;
 use libc::STDOUT_FILENO;
 use tally::Tally;
+use text::put_number;
+use text::put_octets;
+use text::put_words;
 ghost use mathlib.Core.Path.{_≡_};
 ghost use Prim.Native.Nat.{_+_, _≤_};
 ghost use lib.ListN.{length};
@@ -20,11 +23,11 @@ struct Report {
     total: Tally,
 }
 
-// Writes the number of a line of the input and some words.
-fn print_at_line(line: u64, words: &[u8]) {
-    io::write_all(STDOUT_FILENO, b"line ");
-    io::print_decimal(STDOUT_FILENO, line);
-    io::write_all(STDOUT_FILENO, words);
+fn print_no_vector(line: u64) {
+    let mut words = [0u8; 64];
+    let next = put_number(&mut words, 0, b"line ", line);
+    let end = put_words(&mut words, next, b" is not a vector\n");
+    io::write_all(STDOUT_FILENO, octets::part(&words, 0, end));
 }
 
 // Whether the octets found are those expected; a line says where they are not.
@@ -32,12 +35,17 @@ fn agrees(line: u64, way: &[u8], found: [u8; 8], expected: [u8; 8]) -> bool {
     if check::same(&found, &expected) {
         return true;
     }
-    print_at_line(line, way);
-    hex::print_octets(found);
-    io::write_all(STDOUT_FILENO, b" expected ");
-    hex::print_octets(expected);
-    io::write_all(STDOUT_FILENO, b"\n");
+    print_difference(line, way, found, expected);
     false
+}
+
+fn print_difference(line: u64, way: &[u8], found: [u8; 8], expected: [u8; 8]) {
+    let mut words = [0u8; 128];
+    let found_at = put_number(&mut words, 0, b"line ", line);
+    let expected_at = put_octets(&mut words, found_at, way, &found);
+    let next = put_octets(&mut words, expected_at, b" expected ", &expected);
+    let end = put_words(&mut words, next, b"\n");
+    io::write_all(STDOUT_FILENO, octets::part(&words, 0, end));
 }
 
 // A vector both ways.
@@ -117,7 +125,7 @@ fn with_line(s: &[u8], at: usize, end: usize, r: Report) -> Report
     }
     let n = lines::name_length(&s[at..end]);
     if n == 0 {
-        print_at_line(next.line, b" is not a vector\n");
+        print_no_vector(next.line);
         return next;
     }
     with_vector(s, at, end, n, next)

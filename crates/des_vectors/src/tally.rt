@@ -1,5 +1,7 @@
 // How many vectors were run, and how many came out right each way.
 use libc::STDOUT_FILENO;
+use text::put_number;
+use text::put_words;
 
 pub(crate) struct Tally {
     pub(crate) vectors: u64,
@@ -33,16 +35,13 @@ pub(crate) fn sum(a: Tally, b: Tally) -> Tally {
     }
 }
 
-fn print_count(word: &[u8], n: u64) {
-    io::write_all(STDOUT_FILENO, word);
-    io::print_decimal(STDOUT_FILENO, n);
-}
-
-// Writes a tally on a line of its own, under a name.
+// Writes a tally on a line of its own, under a name of any length.
 pub(crate) fn print(name: &[u8], t: Tally) {
+    let mut line = [0u8; 128];
+    let enciphered_at = put_number(&mut line, 0, b" ", t.vectors);
+    let deciphered_at = put_number(&mut line, enciphered_at, b" enciphered ", t.enciphered);
+    let next = put_number(&mut line, deciphered_at, b" deciphered ", t.deciphered);
+    let end = put_words(&mut line, next, b"\n");
     io::write_all(STDOUT_FILENO, name);
-    print_count(b" ", t.vectors);
-    print_count(b" enciphered ", t.enciphered);
-    print_count(b" deciphered ", t.deciphered);
-    io::write_all(STDOUT_FILENO, b"\n");
+    io::write_all(STDOUT_FILENO, octets::part(&line, 0, end));
 }

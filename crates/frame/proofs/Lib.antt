@@ -10,6 +10,7 @@ pub mod ReadBack
 pub mod Rebuilt
 pub mod Differ
 pub mod RoundTrip
+pub mod Sending
 pub mod CarriedFields
 pub mod FrameOctets
 mod Examples

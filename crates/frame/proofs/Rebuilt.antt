@@ -11,13 +11,11 @@ use Rattle.crc.proofs.Receiver.{divides-exactly}
 use Rattle.frame.specs.declared.codes.Command.{Command}
 use Rattle.frame.specs.declared.layout.Layout.{Layout}
 use Rattle.frame.specs.declared.layout.Presence.the-variants.{Carried}
-use Rattle.frame.specs.declared.checks.Verdict.the-variants.{Good}
 use Rattle.frame.specs.Layout.{layoutOf, placesOf}
 use Rattle.frame.specs.Content.{onWire, valueAt, fieldsOf, dataOf, inZero, inZeroField}
-use Rattle.frame.specs.Checks.{inspected}
 use Rattle.frame.specs.Building.{headOf, fixedOf, bodyOf, octetsOf}
 use Rattle.frame.proofs.Widths.{has-bounds}
-use Rattle.frame.proofs.GoodFrame.{GoodFrame, inspected-good}
+use Rattle.frame.proofs.GoodFrame.{GoodFrame}
 use Rattle.frame.proofs.OneField.{wire-of-value, wire-of-octet}
 
 -- an offset in a zero field of the layout
@@ -95,8 +93,3 @@ module _ (c : Command) (s : List ℕ) (g : GoodFrame c s) (zero : (i : ℕ) → 
   rebuilt octets =
       rw (body-again, ← divides-exactly s octets (omega (arith, g .least)) .0 (g .checked .key))
       (take-append-drop (length s - 2) s)
-
--- The same from the verdict of all checks.
-pub rebuilt-good : (c : Command) (s : List ℕ) → inspected s ≡ Good c → ((i : ℕ) → getD s i 0 < 256) → ((i : ℕ) → inZeroField (layoutOf c) i ≡ true → getD s i 0 ≡ 0)
-    → octetsOf c (fieldsOf c s) (dataOf c s) ≡ s
-rebuilt-good c s e octets zero = rebuilt c s (inspected-good s c e) zero octets

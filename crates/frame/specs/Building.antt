@@ -7,6 +7,7 @@ use lib.ListN.{length, take}
 use lib.Dec.{leb}
 use Rattle.octets.specs.Splice.{spliced, fronted}
 use Rattle.crc.specs.AnnexE.{keyOctets}
+use Rattle.label.specs.declared.Octets.{Octets}
 use Rattle.frame.specs.declared.codes.Command.{Command}
 use Rattle.frame.specs.declared.layout.Layout.{Layout}
 use Rattle.frame.specs.declared.content.Fields.{Fields}
@@ -63,3 +64,8 @@ built b c f d =
     cond (leb 128 (length b))
     (cond (within (layoutOf c) (length d)) (over (octetsOf c f d) b) (refusedWith Data 7 refl b))
     (refusedWith Buffer 17 refl b)
+
+-- For private functions of the card and the tool alone: what sending a frame leaves in the lent buffer, and its length.
+pub record Sends (frame before after : List ℕ) (sent : Octets) : Type 0 where
+  pub octets : sent ≡ record { 0 = length frame }
+  pub buffer : after ≡ fronted frame before

@@ -1,4 +1,5 @@
 pub mod Codes
+pub mod Addresses
 pub mod Layout
 pub mod Content
 pub mod Checks

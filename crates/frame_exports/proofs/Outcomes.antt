@@ -1,6 +1,6 @@
 -- The outcomes of the exported calls, case by case.
 use Prim.Native.Nat.{ℕ, _≤_, _<_}
-use mathlib.Core.Path.{_≡_, refl, sym, ap, _∙_}
+use mathlib.Core.Path.{_≡_, sym, ap, _∙_}
 use mathlib.Core.List.{List}
 use borrow.Author.Tests.{le-leb, lt-leb}
 use lib.ListN.{length}
@@ -20,7 +20,7 @@ use Rattle.frame.specs.Content.{fieldsOf, dataOf}
 use Rattle.frame.specs.Checks.{faultNumber, inspected, fieldsIn, readOf}
 use Rattle.frame.specs.Building.{built, refusalNumber}
 use Rattle.label.specs.declared.Octets.{Octets}
-use Rattle.frame_exports.specs.Exported.{Written, Shown, unwritten, writtenAs, buildFor, buildOutcome, shownAs, readOutcome}
+use Rattle.frame_exports.specs.Exported.{Shown, unwritten, writtenAs, buildFor, buildOutcome, shownAs, readOutcome}
 
 module _ (b : List ℕ) (code : ℕ) (f : Fields) (d : List ℕ) (before : ℕ) where
   pub build-short : length b < 128 → unwritten 17 b before ≡ buildOutcome b code f d before

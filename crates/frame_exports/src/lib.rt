@@ -1,8 +1,6 @@
 // Frames for C programs: the builder and the reader of whole frames. include/propolisk_frame.h declares them.
 ghost use mathlib.Core.Path.{_≡_};
-ghost use Rattle.frame.specs.Building.{built};
-ghost use Rattle.frame.specs.Codes.{commandOf};
-ghost use Rattle.frame_exports.specs.Exported.{Written, Shown, buildOutcome, readOutcome, fieldsFrom};
+ghost use Rattle.frame_exports.specs.Exported.{buildOutcome, readOutcome, fieldsFrom};
 use frame::Built;
 use frame::Fields;
 use frame::Verdict;

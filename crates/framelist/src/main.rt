@@ -95,10 +95,10 @@ fn successor(offset: u64) -> u64 {
 
 fn list_event(received: Received, begun: u64) {
     let event = received.event;
-    if let Event::Good(command) = event {
+    if let Event::Good(_) = event {
         let frame = received.frame;
         let n = frame[0] as usize;
-        list_frame(command, octets::part(&frame, 0, n));
+        list_frame(octets::part(&frame, 0, n));
     } else {
         let number = event.number();
         if number != 0 {

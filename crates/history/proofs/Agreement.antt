@@ -27,7 +27,8 @@ use Rattle.receiver.proofs.Follows.{octet-keeps, gap-keeps}
 use Rattle.card.specs.declared.Phase.{Phase}
 use Rattle.card.specs.declared.Phase.the-variants.{Idle, Waiting}
 use Rattle.card.specs.declared.Card.{Card}
-use Rattle.card.specs.Soundness.{broadcast, sound}
+use Rattle.frame.specs.Addresses.{broadcast}
+use Rattle.card.specs.Soundness.{sound}
 use Rattle.card.specs.Parts.{Response, withReceiver}
 use Rattle.card.specs.Frames as card
 use Rattle.card.specs.Events as card-events

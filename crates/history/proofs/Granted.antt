@@ -7,7 +7,6 @@ use mathlib.Core.Path.{_≡_, refl, ap, subst, _∙_}
 use native.Mathlib.Omega.{arith}
 use lib.ListN.{length, replicate}
 use borrow.Author.Tests.{eq-eqb, le-ltb}
-use Rattle.octets.specs.Part.{same}
 use Rattle.octets.proofs.Same.{same-self}
 use Rattle.des.specs.Des.{encipher}
 use Rattle.frame.specs.declared.codes.Command.{Command}

@@ -16,7 +16,7 @@ use Rattle.receiver.proofs.Soundness.{fresh-awaiting}
 use Rattle.card.specs.declared.Card.{Card}
 use Rattle.card.specs.declared.Answered.{Answered}
 use Rattle.card.specs.declared.Answer.the-variants.{Nothing, BroadcastAddress, BrokenRule, WrongLength}
-use Rattle.card.specs.Soundness.{broadcast}
+use Rattle.frame.specs.Addresses.{broadcast}
 use Rattle.card.specs.Setup.{fresh, admittedWith, admitted, afterSetup, refusedSetup}
 use Rattle.history.specs.Book as book
 use Rattle.history.specs.Book.{setupOf}

@@ -7,7 +7,7 @@ use lib.ListN.{length, take, getD}
 use lib.Seq.{length-take-le, getD-take, ext-getD}
 use Rattle.octets.specs.Splice.{spliced}
 use Rattle.octets.specs.Part.{partOf}
-use Rattle.octets.proofs.Splice.{length-spliced, getD-in-spliced}
+use Rattle.octets.proofs.Splice.{length-spliced, getD-in-spliced, getD-before-spliced}
 use Rattle.octets.proofs.Parts.{length-part, getD-part}
 use Rattle.records.specs.Finding.{blank}
 use Rattle.receiver_memory.specs.Fields.{fieldAt}
@@ -16,7 +16,7 @@ use Rattle.card_memory.specs.Decoding.{size, recordIn, recordsIn}
 use Rattle.card_memory.specs.Marks.{marksFrom}
 use Rattle.card_memory.specs.Setup.{setUp}
 use Rattle.card_memory.proofs.RecordRuns.{length-records, record-at}
-use Rattle.card_memory.proofs.Splices.{before, part-inside, part-before}
+use Rattle.card_memory.proofs.Splices.{part-inside, part-before}
 
 -- marks that stand at other offsets
 marks-shift : (n a b : ℕ) (s t : List ℕ) → ((j : ℕ) → j < 122 * n → getD s (a + j) 0 ≡ getD t (b + j) 0) → marksFrom n a s ≡ marksFrom n b t
@@ -109,19 +109,19 @@ module _ (m address key entries : List ℕ) (count : ℕ) (long : size ≤ lengt
   unfolding s3 s4
   fresh-count =
       rw is
-      (before s4 256 taken h5 14 (omega arith) ∙ before s3 127 (0 ∷ 0 ∷ []) h4 14 (omega arith) ∙ getD-in-spliced s2 14 (count ∷ 0 ∷ []) h3 0 (omega arith))
+      (getD-before-spliced s4 256 taken h5 14 (omega arith) ∙ getD-before-spliced s3 127 (0 ∷ 0 ∷ []) h4 14 (omega arith) ∙ getD-in-spliced s2 14 (count ∷ 0 ∷ []) h3 0 (omega arith))
 
   pub fresh-wait : getD fresh 15 0 ≡ 0
   unfolding s3 s4
   fresh-wait =
       rw is
-      (before s4 256 taken h5 15 (omega arith) ∙ before s3 127 (0 ∷ 0 ∷ []) h4 15 (omega arith) ∙ getD-in-spliced s2 14 (count ∷ 0 ∷ []) h3 1 (omega arith))
+      (getD-before-spliced s4 256 taken h5 15 (omega arith) ∙ getD-before-spliced s3 127 (0 ∷ 0 ∷ []) h4 15 (omega arith) ∙ getD-in-spliced s2 14 (count ∷ 0 ∷ []) h3 1 (omega arith))
 
   -- the receiver's mark and count
   pub fresh-receiver : (j : ℕ) → j < 2 → getD fresh (127 + j) 0 ≡ getD (0 ∷ 0 ∷ []) j 0
   unfolding s4
   fresh-receiver j k =
-      rw is (before s4 256 taken h5 (127 + j) (omega arith) ∙ getD-in-spliced s3 127 (0 ∷ 0 ∷ []) h4 j (omega arith))
+      rw is (getD-before-spliced s4 256 taken h5 (127 + j) (omega arith) ∙ getD-in-spliced s3 127 (0 ∷ 0 ∷ []) h4 j (omega arith))
 
   entry-octet : (j : ℕ) → j < 122 * count → getD fresh (256 + j) 0 ≡ getD entries (0 + j) 0
   unfolding taken

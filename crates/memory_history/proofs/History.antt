@@ -20,7 +20,7 @@ use Rattle.receiver_memory.specs.Receiver as receiver
 use Rattle.receiver_memory.proofs.Fields.{length-field}
 use Rattle.card.specs.declared.Phase.the-variants.{Idle}
 use Rattle.card.specs.declared.Card.{Card}
-use Rattle.card.specs.Soundness.{broadcast}
+use Rattle.frame.specs.Addresses.{broadcast}
 use Rattle.card.proofs.Keeping.{Whole}
 use Rattle.history.specs.Book as book
 use Rattle.history.specs.Book.{contentsOf, setupOf, bookOf}
@@ -34,9 +34,9 @@ use Rattle.card_memory.specs.Marks.{marksInUse}
 use Rattle.card_memory.specs.Setup.{entryRecords, setUp}
 use Rattle.card_memory.proofs.RecordRuns.{length-records, record-at}
 use Rattle.card_memory.proofs.Shape as shape
-use Rattle.card_memory.proofs.Carrying.{memory-carries}
+use Rattle.card_memory.proofs.EncodableCards.{decoded-encodable}
 use Rattle.memory_history.specs.Claim.{MemoryCall, callOf, run, Accepted, KeptInMemory}
-use Rattle.memory_history.proofs.Going.{Good, good-sound, next-unbroken, next-leaves, ran}
+use Rattle.memory_history.proofs.Calls.{Good, good-sound, next-unbroken, next-leaves, ran}
 use Rattle.memory_history.proofs.FreshMemory.{fresh-length, fresh-address, fresh-key, fresh-count, fresh-wait, fresh-receiver, fresh-marks, fresh-records}
 use Rattle.memory_history.proofs.Start.{Passed, setup-passed}
 
@@ -162,7 +162,7 @@ module _ (m address key : List ℕ) (count : ℕ) (entries : List ℕ) (entered 
 
   start-good : ((i : ℕ) → getD fresh i 0 < 256) → Good fresh
   start-good octets =
-      record { long = whole-memory; marks = start-marks; whole = start-whole; carried = memory-carries fresh whole-memory octets }
+      record { long = whole-memory; marks = start-marks; whole = start-whole; encodable = decoded-encodable fresh whole-memory octets }
 
   kept-from-start : ((i : ℕ) → getD fresh i 0 < 256) → (h : List MemoryCall)
       → Kept given (decoded (run fresh h)) (bookOf address key given (map callOf h))

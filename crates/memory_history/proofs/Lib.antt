@@ -1,4 +1,4 @@
-mod Going
+mod Calls
 mod FreshMemory
 mod Start
 pub mod History

@@ -12,7 +12,7 @@ use Rattle.records.specs.declared.Refusal.the-variants.{TooLong, IllFormed, Too
 use Rattle.card.specs.declared.Answer.{Answer}
 use Rattle.card.specs.declared.Answer.the-variants.{Nothing, BadFrame, BroadcastAddress, Refused, BrokenRule, WrongCipher, WrongLength}
 use Rattle.card.specs.Numbers.{numberOf}
-use Rattle.card.specs.Soundness.{broadcast}
+use Rattle.frame.specs.Addresses.{broadcast}
 use Rattle.card.specs.Setup.{admitted, afterSetup}
 use Rattle.card_memory.specs.Decoding.{size}
 use Rattle.card_memory.specs.Setup.{entryRecords, entryMarksInUse, setUp}

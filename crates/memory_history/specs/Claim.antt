@@ -14,7 +14,7 @@ use Rattle.card_memory.specs.Setup.{entryRecords}
 use Rattle.card_exports.specs.Outcome.{Outcome, soundMemory, gapOutcome, sessionEndOutcome, meterWriteOutcome, octetOutcome}
 use Rattle.card_exports.specs.Setup.{setupOutcome}
 
--- a call with its arguments: an octet with the number and the reply buffer lent, a gap, a session end, a meter write with TAB and data
+-- a call with its arguments: an octet with NA2 and the reply buffer lent, a gap, a session end, a meter write with TAB and data
 pub data MemoryCall : Type 0 where
   Octet : ℕ → List ℕ → List ℕ → MemoryCall
   Gap : MemoryCall
@@ -23,14 +23,14 @@ pub data MemoryCall : Type 0 where
 
 -- the same call on a card by value; of the reply buffer only the length bears on it
 abbrev pub callOf : MemoryCall → Call
-callOf (Octet o number reply) = card.Octet o number (length reply)
+callOf (Octet o na2 reply) = card.Octet o na2 (length reply)
 callOf Gap = card.Gap
 callOf SessionEnd = card.SessionEnd
 callOf (MeterWrite t d) = card.MeterWrite t d
 
 -- the number of an exported call, and the memory that it leaves
 unfoldable pub outcome : List ℕ → MemoryCall → Outcome
-outcome m (Octet o number reply) = record { number = octetOutcome m o number reply .number; memory = octetOutcome m o number reply .memory }
+outcome m (Octet o na2 reply) = record { number = octetOutcome m o na2 reply .number; memory = octetOutcome m o na2 reply .memory }
 outcome m Gap = gapOutcome m
 outcome m SessionEnd = sessionEndOutcome m
 outcome m (MeterWrite t d) = meterWriteOutcome m t d

@@ -1,32 +1,50 @@
 -- Each number has one form: reading takes back what writing gave, what was read is written the same, and two forms of one number are equal.
 use Prim.Native.Nat.{ℕ, _+_, _≤_, _<_, _^_}
 use mathlib.Core.Path.{_≡_, refl, sym, _∙_}
+use mathlib.Core.Bool.{Bool, true, false}
 use mathlib.Core.List.{List, _++_, append-nil, append-assoc}
 use native.Mathlib.Omega.{arith}
 use lib.ListN.{length, getD, take, drop}
 use lib.Seq.{take-length, drop-at, length-take-le, drop-length, take-at, getD-drop}
+use lib.Dec.{ltb}
 use borrow.Author.Tests.{lt-ltb, le-leb}
 use Rattle.number.specs.Groups.{encoded, Front, found, none, frontOf, placed, readAt, octetsAt}
-use Rattle.number.specs.declared.Reading.the-variants.{Number, Faulty}
+use Rattle.number.specs.Answers.{numberThere, refusedAt, swapFault}
 use Rattle.number.proofs.Fronts.{front-encoded, encoded-front, Formed}
 
 -- the form of n with anything behind it
 pub front-form : (n : ℕ) (s : List ℕ) → n < 2 ^ 32 → frontOf (encoded n ++ s) ≡ found n (length (encoded n))
 front-form n s h = front-encoded n s ∙ rw (lt-ltb n (2 ^ 32) h)
 
+-- what is read of the form of m is m
+pub own-form : (m : ℕ) (s : List ℕ) (n w : ℕ) → frontOf (encoded m ++ s) ≡ found n w → (m ≡ n) × (length (encoded m) ≡ w)
+own-form m s n w e = go (ltb m (2 ^ 32)) refl
+  where
+    go : (b : Bool) → ltb m (2 ^ 32) ≡ b → (m ≡ n) × (length (encoded m) ≡ w)
+    go true h =
+        let r : found m (length (encoded m)) ≡ found n w = rw (front-encoded m s, h) at e in
+        let p : m ≡ n = cc in
+        let q : length (encoded m) ≡ w = cc in
+        (p, q)
+    go false h =
+        let r : none ≡ found n w = rw (front-encoded m s, h) at e in
+        let z : _≡_ {A = ℕ} 0 1 = cc in
+        let y : ⊥ = omega arith in
+        absurd y
+
 -- a number that was written is read where it was written
-pub read-written : (s : List ℕ) (at n : ℕ) → n < 2 ^ 32 → at + length (encoded n) ≤ length s → readAt (octetsAt s at n) at ≡ Number n (at + length (encoded n))
+pub read-written : (s : List ℕ) (at n : ℕ) → n < 2 ^ 32 → at + length (encoded n) ≤ length s → readAt (octetsAt s at n) at ≡ numberThere n (at + length (encoded n))
 unfolding readAt octetsAt placed
 read-written s at n h r =
     let p : length (take at s) ≡ at = length-take-le at s (omega arith) in
     rw (le-leb _ _ r, take-length (encoded n), append-assoc (take at s) (encoded n), drop-at (take at s) _ at p, front-form n _ h)
 
 -- what is read as n stands in n's own octets
-pub written-read : (s : List ℕ) (at n w : ℕ) → ((i : ℕ) → getD s i 0 < 256) → readAt s at ≡ Number n (at + w) → take w (drop at s) ≡ encoded n
+pub written-read : (s : List ℕ) (at n w : ℕ) → ((i : ℕ) → getD s i 0 < 256) → readAt s at ≡ numberThere n (at + w) → take w (drop at s) ≡ encoded n
 unfolding readAt placed
 written-read s at n w b e = go (frontOf (drop at s)) refl e
   where
-    go : (f : Front) → frontOf (drop at s) ≡ f → placed at f ≡ Number n (at + w) → take w (drop at s) ≡ encoded n
+    go : (f : Front) → frontOf (drop at s) ≡ f → placed at f ≡ numberThere n (at + w) → take w (drop at s) ≡ encoded n
     go none q r = let z : _≡_ {A = ℕ} 0 1 = cc in let y : ⊥ = omega arith in absurd y
     go (found m v) q r =
         let p : m ≡ n = cc in
@@ -43,21 +61,21 @@ one-form s t n bs bt p q = whole s bs p ∙ sym (whole t bt q)
     whole r b e = encoded-front r n (length r) b e .octets ∙ rw (drop-length r, append-nil)
 
 -- the reader's answer, as the number at the front of what stands from the offset on
-pub read-front : (s : List ℕ) (at n next : ℕ) → readAt s at ≡ Number n next → (w : ℕ) × (frontOf (drop at s) ≡ found n w) × (next ≡ at + w)
+pub read-front : (s : List ℕ) (at n next : ℕ) → readAt s at ≡ numberThere n next → (w : ℕ) × (frontOf (drop at s) ≡ found n w) × (next ≡ at + w)
 unfolding readAt placed
 read-front s at n next e = go (frontOf (drop at s)) refl e
   where
-    go : (f : Front) → frontOf (drop at s) ≡ f → placed at f ≡ Number n next → (w : ℕ) × (frontOf (drop at s) ≡ found n w) × (next ≡ at + w)
+    go : (f : Front) → frontOf (drop at s) ≡ f → placed at f ≡ numberThere n next → (w : ℕ) × (frontOf (drop at s) ≡ found n w) × (next ≡ at + w)
     go none q r = let z : _≡_ {A = ℕ} 0 1 = cc in let y : ⊥ = omega arith in absurd y
     go (found m v) q r =
         let p : m ≡ n = cc in
         let k : at + v ≡ next = cc in
         (v, q ∙ rw p, sym k)
 
-pub read-faulty : (s : List ℕ) (at : ℕ) → readAt s at ≡ Faulty → frontOf (drop at s) ≡ none
+pub read-faulty : (s : List ℕ) (at : ℕ) → readAt s at ≡ refusedAt swapFault at → frontOf (drop at s) ≡ none
 unfolding readAt placed
 read-faulty s at e = go (frontOf (drop at s)) e
   where
-    go : (f : Front) → placed at f ≡ Faulty → f ≡ none
+    go : (f : Front) → placed at f ≡ refusedAt swapFault at → f ≡ none
     go none r = refl
     go (found m v) r = let z : _≡_ {A = ℕ} 0 1 = cc in let y : ⊥ = omega arith in absurd y

@@ -11,7 +11,7 @@ use lib.Seq.{paste, paste-zero, paste-suc, length-paste, drop-drop, getD-drop}
 use lib.Dec.{ltb, lit<, lit≤}
 use borrow.Author.Tests.{lt-ltb, le-ltb, le-leb, lt-leb}
 use Rattle.number.specs.Groups.{groups, encoded, writtenAt, octetsAt}
-use Rattle.number.specs.declared.Written.the-variants.{Next, Short}
+use Rattle.number.specs.Answers.{wroteTo, refusedWith, tooShort}
 
 -- a number below 128 is one octet; any other has its low group first
 pub one-group : (k n : ℕ) → n < 128 → groups k n ≡ n ∷ []
@@ -106,7 +106,7 @@ module _ (s : List ℕ) (at n : ℕ) (octets : List ℕ) (rest next j k : ℕ) (
   written-octets =
       rw (le-leb _ _ (l .room), ← laid-all) (stored l rest [] (one-group k rest h))
 
-  pub written-next : Next (next + 1) ≡ writtenAt s at n
+  pub written-next : wroteTo (next + 1) ≡ writtenAt s at n
   unfolding writtenAt
   written-next =
       let e : next + 1 ≡ at + length (encoded n) = omega (arith, laid-all, l .place) in
@@ -114,7 +114,7 @@ module _ (s : List ℕ) (at n : ℕ) (octets : List ℕ) (rest next j k : ℕ) (
 
 -- where it does not fit
 module _ (s : List ℕ) (at n : ℕ) (h : length s < at + length (encoded n)) where
-  pub short-answer : Short ≡ writtenAt s at n
+  pub short-answer : refusedWith tooShort ≡ writtenAt s at n
   unfolding writtenAt
   short-answer = rw (lt-leb _ _ h)
 

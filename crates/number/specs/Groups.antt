@@ -5,10 +5,7 @@ use mathlib.Core.Bool.{cond}
 use lib.ListN.{length, drop}
 use lib.Seq.{paste}
 use lib.Dec.{ltb, leb, eqb}
-use Rattle.number.specs.declared.Reading.{Reading}
-use Rattle.number.specs.declared.Reading.the-variants.{Number, Faulty}
-use Rattle.number.specs.declared.Written.{Written}
-use Rattle.number.specs.declared.Written.the-variants.{Next, Short}
+use Rattle.number.specs.Answers.{Read, numberThere, refusedAt, Wrote, wroteTo, refusedWith, swapFault, tooShort}
 
 -- the octets of n, of which at most so many are followed by another
 unfoldable pub groups : ℕ → ℕ → List ℕ
@@ -44,18 +41,18 @@ bounded none = none
 unfoldable pub frontOf : List ℕ → Front
 frontOf s = bounded (decoded 5 s)
 
--- a number found at an offset, with the offset after it
-unfoldable pub placed : ℕ → Front → Reading
-placed at (found n w) = Number n (at + w)
-placed at none = Faulty
+-- a number found at an offset, with the offset after it; 18 at the offset where there is none
+unfoldable pub placed : ℕ → Front → Read
+placed at (found n w) = numberThere n (at + w)
+placed at none = refusedAt swapFault at
 
 -- what stands at an offset
-unfoldable pub readAt : List ℕ → ℕ → Reading
+unfoldable pub readAt : List ℕ → ℕ → Read
 readAt s at = placed at (frontOf (drop at s))
 
--- what writing n at an offset answers: the offset after it, where it fits
-unfoldable pub writtenAt : List ℕ → ℕ → ℕ → Written
-writtenAt s at n = cond (leb (at + length (encoded n)) (length s)) (Next (at + length (encoded n))) Short
+-- what writing n at an offset answers: the offset after it, or 17 where it does not fit
+unfoldable pub writtenAt : List ℕ → ℕ → ℕ → Wrote
+writtenAt s at n = cond (leb (at + length (encoded n)) (length s)) (wroteTo (at + length (encoded n))) (refusedWith tooShort)
 
 -- the octets after that: those of n from the offset on, where it fits
 unfoldable pub octetsAt : List ℕ → ℕ → ℕ → List ℕ

@@ -1,6 +1,7 @@
 // Numbers in groups of seven bits, as the swap file has them (01, Swap file). Any number below 2^32 is taken; each caller tests its own limit.
 ghost use mathlib.Core.Path.{_≡_};
 ghost use lib.ListN.{length};
+ghost use Rattle.number.specs.Answers.{answerOfReading, answerOfWritten};
 ghost use Rattle.number.specs.Groups.{encoded, readAt, writtenAt, octetsAt};
 
 // What stands at an offset: a number in its shortest form with the offset after it, or no such number.
@@ -23,7 +24,7 @@ fn wide(octet: u8) -> u64
 
 // The number whose octets start at an offset. An offset past the end has none.
 pub fn read(octets: &[u8], at: usize) -> Reading
-    ensures { λ r. ⌜ r ≡ readAt (now (octets .entry)) at ⌝ }
+    ensures { λ r. ⌜ answerOfReading at r ≡ readAt (now (octets .entry)) at ⌝ }
 {
     let mut value: u64 = 0;
     let mut scale: u64 = 1;
@@ -78,7 +79,7 @@ pub fn width(n: u32) -> usize
 
 // Writes a number's octets from an offset on; where they do not fit, nothing is written.
 pub fn write(octets: &mut [u8], at: usize, n: u32) -> Written
-    ensures { λ r. ⌜ (r ≡ writtenAt (now (octets .entry)) at n) × (now (octets .exit) ≡ octetsAt (now (octets .entry)) at n) ⌝ }
+    ensures { λ r. ⌜ (answerOfWritten r ≡ writtenAt (now (octets .entry)) at n) × (now (octets .exit) ≡ octetsAt (now (octets .entry)) at n) ⌝ }
 {
     let size = width(n);
     let room = octets.len();

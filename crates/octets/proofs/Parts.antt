@@ -1,6 +1,6 @@
 -- What `partOf` is where the list has the part, and where not.
 use Prim.Native.Nat.{ℕ, suc, _+_, _-_, _≤_, _<_}
-use mathlib.Core.Path.{_≡_, refl, sym, _∙_}
+use mathlib.Core.Path.{_≡_, refl, sym, ap, _∙_}
 use mathlib.Core.List.{List, [], _∷_, _++_}
 use mathlib.Core.Bool.{Bool, true, false, cond}
 use native.Mathlib.Decide.{decLe}
@@ -8,7 +8,7 @@ use native.Mathlib.Nat.{sub-zero}
 use native.Mathlib.Omega.{arith}
 use lib.Dec.{leb}
 use lib.ListN.{length, take, drop, getD, length-drop, length-append}
-use lib.Seq.{length-take-le, getD-take, getD-drop, drop-at, take-append-seam, take-add, drop-cons, drop-drop, ext-getD}
+use lib.Seq.{length-take-le, getD-take, getD-drop, drop-at, take-append-seam, take-add, drop-cons, drop-drop, take-all, ext-getD}
 use borrow.Author.Tests.{le-leb, lt-leb}
 use Rattle.octets.specs.Part.{partOf}
 
@@ -83,3 +83,13 @@ part-cons s a e h k =
 
 pub part-front : (s : List ℕ) (e : ℕ) → e ≤ length s → partOf s 0 e ≡ take e s
 part-front s e h = rw (part-there s 0 e h, sub-zero)
+
+pub part-all : (s : List ℕ) (n : ℕ) → length s ≡ n → partOf s 0 n ≡ s
+part-all s n e = part-front s n (omega arith) ∙ take-all n s (omega arith)
+
+-- a part of one octet, and one that starts with two
+pub part-one : (s : List ℕ) (a : ℕ) → suc a ≤ length s → partOf s a (suc a) ≡ getD s a 0 ∷ []
+part-one s a h = part-cons s a (suc a) (omega arith) h ∙ ap (λ (l : List ℕ). getD s a 0 ∷ l) (part-none s (suc a) (suc a) (omega arith))
+
+pub part-two : (s : List ℕ) (a e : ℕ) → suc (suc a) ≤ e → e ≤ length s → partOf s a e ≡ getD s a 0 ∷ getD s (suc a) 0 ∷ partOf s (suc (suc a)) e
+part-two s a e h k = part-cons s a e (omega arith) k ∙ ap (λ (l : List ℕ). getD s a 0 ∷ l) (part-cons s (suc a) e (omega arith) k)

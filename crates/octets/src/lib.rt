@@ -75,6 +75,15 @@ pub fn eight(s: &[u8]) -> [u8; 8]
     a
 }
 
+// As `six`, for 100.
+pub fn hundred(s: &[u8]) -> [u8; 100]
+    ensures { λ r. ⌜ r ≡ spliced (replicate 100 0) 0 (now (s .entry)) ⌝ }
+{
+    let mut a = [0u8; 100];
+    put(&mut a, 0, s);
+    a
+}
+
 // Whether two slices hold the same octets.
 pub fn equal(a: &[u8], b: &[u8]) -> bool
     ensures { λ r. ⌜ r ≡ same (now (a .entry)) (now (b .entry)) ⌝ }

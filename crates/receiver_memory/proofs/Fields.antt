@@ -1,5 +1,5 @@
 -- What is read at an offset, and numbers as octets.
-use Prim.Native.Nat.{ℕ, _+_, _-_, _≤_, _<_}
+use Prim.Native.Nat.{ℕ, zero, suc, _+_, _-_, _≤_, _<_}
 use mathlib.Core.Path.{_≡_, refl, _∙_}
 use mathlib.Core.Bool.{Bool, true, false}
 use mathlib.Core.List.{List}
@@ -10,6 +10,7 @@ use lib.ListN.{length, replicate, length-replicate}
 use Rattle.octets.specs.Part.{partOf}
 use Rattle.octets.proofs.Splice.{spliced-whole}
 use Rattle.octets.proofs.Parts.{length-part}
+use Rattle.octets.proofs.Impossible.{impossible}
 use Rattle.receiver_memory.specs.Fields.{markOf, narrowed, fieldAt}
 
 -- where the memory holds the field, it is the part of the memory
@@ -24,6 +25,12 @@ length-field n m at h = rw (field-part n m at h) (length-part m at (at + n) (ome
 pub mark-back : (b : Bool) → eqb (markOf b) 1 ≡ b
 mark-back true = refl
 mark-back false = refl
+
+-- a mark in use is that of the truth value that it stands for
+pub mark-again : (n : ℕ) → n ≤ 1 → markOf (eqb n 1) ≡ n
+mark-again zero h = refl
+mark-again (suc zero) h = refl
+mark-again (suc (suc j)) h = impossible (omega arith)
 
 pub mark-in-use : (b : Bool) → markOf b ≤ 1
 mark-in-use true = omega arith

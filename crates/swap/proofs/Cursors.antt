@@ -12,13 +12,13 @@ use Rattle.octets.specs.Part.{partOf}
 use Rattle.octets.specs.Splice.{spliced}
 use Rattle.octets.proofs.Parts.{part-there, part-past}
 use Rattle.octets.proofs.Splice.{spliced-whole, spliced-nothing}
+use Rattle.number.specs.Answers.{swapFault}
 use Rattle.number.specs.Groups.{found, none, frontOf}
 use Rattle.swap.specs.declared.item.Entry.{Entry}
 use Rattle.swap.specs.declared.item.Item.the-variants.{Good, Bad}
 use Rattle.swap.specs.declared.cursor.Cursor.{Cursor}
-use Rattle.swap.specs.declared.cursor.Next.the-variants as next
 use Rattle.swap.specs.Reading.{inRecords}
-use Rattle.swap.specs.Cursor.{itemAt, startOf, startAfter, nextAt, followed, adsOf, contentOf}
+use Rattle.swap.specs.Cursor.{itemAt, startOf, startAfter, recordHere, fileEnd, refusedWith, nextAt, followed, adsOf, contentOf}
 use Rattle.swap.proofs.Judging.{item-cut}
 use Rattle.swap.proofs.Shown.{shown}
 use Rattle.swap.proofs.Tally.{item-good}
@@ -32,19 +32,19 @@ module _ (s : List ℕ) where
   unfolding startOf startAfter
   start-found n w e = rw e
 
-  pub next-end : (c : Cursor) → c .left .0 ≡ 0 → next.End ≡ nextAt s c
+  pub next-end : (c : Cursor) → c .left .0 ≡ 0 → fileEnd ≡ nextAt s c
   unfolding nextAt
   next-end c e = rw (eq-eqb (c .left .0) 0 e)
 
   module _ (c : Cursor) (more : c .left .0 ≡ 0 → ⊥) where
-    pub next-forged : (o : ℕ) → itemAt 0 s (c .at) ≡ Bad o → next.Forged ≡ nextAt s c
+    pub next-none : (o : ℕ) → itemAt 0 s (c .at) ≡ Bad o → refusedWith swapFault ≡ nextAt s c
     unfolding nextAt followed
-    next-forged o e = rw (ne-eqb (c .left .0) 0 more, e)
+    next-none o e = rw (ne-eqb (c .left .0) 0 more, e)
 
-    pub next-past : length s < c .at → next.Forged ≡ nextAt s c
-    next-past h = next-forged (c .at) (sym (item-cut 0 s (c .at) (drop (c .at) s) refl (omega (arith, length-drop (c .at) s))))
+    pub next-past : length s < c .at → refusedWith swapFault ≡ nextAt s c
+    next-past h = next-none (c .at) (sym (item-cut 0 s (c .at) (drop (c .at) s) refl (omega (arith, length-drop (c .at) s))))
 
-    pub next-record : (e : Entry) → itemAt 0 s (c .at) ≡ Good e → next.Record e (record { at = e .from + e .length .0; left = inRecords (c .left .0 - 1) }) ≡ nextAt s c
+    pub next-record : (e : Entry) → itemAt 0 s (c .at) ≡ Good e → recordHere e (record { at = e .from + e .length .0; left = inRecords (c .left .0 - 1) }) ≡ nextAt s c
     unfolding nextAt followed
     next-record e q = rw (ne-eqb (c .left .0) 0 more, q)
 

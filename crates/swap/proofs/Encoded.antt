@@ -9,10 +9,10 @@ use lib.Dec.{lit<}
 use Rattle.octets.proofs.Below.{below-take, below-drop}
 use Rattle.number.specs.Groups.{encoded, found, frontOf}
 use Rattle.number.proofs.Fronts.{encoded-front}
-use Rattle.number.proofs.Forms.{front-form}
+use Rattle.number.proofs.Forms.{front-form, own-form}
 use Rattle.swap.specs.declared.kind.Kind.{Kind}
 use Rattle.swap.specs.declared.kind.Kind.the-variants.{Raw, Label}
-use Rattle.swap.specs.Record.{Record, Sound, key, keyOf, kindOf, lengthLimit}
+use Rattle.swap.specs.Record.{Record, Sound, OfOctets, Each, key, keyOf, kindOf, lengthLimit}
 use Rattle.swap.specs.Encoding.{recordOctets}
 use Rattle.swap.specs.Items.{recordAt}
 use Rattle.swap.proofs.Shown.{Shown}
@@ -23,15 +23,23 @@ unfolding lengthLimit
 limit-small Raw = lit< tt
 limit-small Label = lit< tt
 
+pub sound-octets : {r : Record} → Sound r → OfOctets r
+sound-octets s =
+    record { address = s .address; address-octets = s .address-octets; tab-octet = s .tab-octet; content-octets = s .content-octets }
+
+pub all-octets : {rs : List Record} → Each Sound rs → Each OfOctets rs
+all-octets Each.none = Each.none
+all-octets (Each.more p s) = Each.more (sound-octets p) (all-octets s)
+
 -- t is a record's octets, with others behind them
-module _ (r : Record) (rest t : List ℕ) (sound : Sound r) (is : t ≡ recordOctets r ++ rest) where
+module _ (r : Record) (rest t : List ℕ) (six : length (r .ads) ≡ 6) (is : t ≡ recordOctets r ++ rest) where
   from-tab : drop 6 t ≡ r .tab ∷ r .kind ∷ (encoded (length (r .content)) ++ (r .content ++ rest))
   unfolding recordOctets
-  from-tab = rw (is, append-assoc, append-assoc) (drop-at (r .ads) _ 6 (sound .address))
+  from-tab = rw (is, append-assoc, append-assoc) (drop-at (r .ads) _ 6 (six))
 
   pub ads-front : take 6 t ≡ r .ads
   unfolding recordOctets
-  ads-front = rw (is, append-assoc, append-assoc) (take-at (r .ads) _ 6 (sound .address))
+  ads-front = rw (is, append-assoc, append-assoc) (take-at (r .ads) _ 6 (six))
 
   pub tab-next : getD t 6 0 ≡ r .tab
   tab-next = sym (getD-drop 6 t 0 0) ∙ rw from-tab
@@ -52,21 +60,21 @@ module _ (r : Record) (rest t : List ℕ) (sound : Sound r) (is : t ≡ recordOc
 
   pub long-enough : 8 + length (encoded (length (r .content))) + length (r .content) ≤ length t
   unfolding recordOctets
-  long-enough = rw is (simp length-append (omega (arith, sound .address)))
+  long-enough = rw is (simp length-append (omega (arith, six)))
 
   pub key-front : keyOf (take 7 t) ≡ key r
   unfolding key
   key-front = rw (take-suc t 6 0 (omega (arith, long-enough)), ads-front, tab-next)
 
-  length-front : frontOf (drop 8 t) ≡ found (length (r .content)) (length (encoded (length (r .content))))
-  length-front = rw from-length (front-form (length (r .content)) _ (omega (arith, sound .short, limit-small (kindOf (r .kind)))))
+  length-front : Sound r → frontOf (drop 8 t) ≡ found (length (r .content)) (length (encoded (length (r .content))))
+  length-front sound = rw from-length (front-form (length (r .content)) _ (omega (arith, sound .short, limit-small (kindOf (r .kind)))))
 
-  pub record-shown : (least : ℕ) → least ≤ key r → Shown least t (length (encoded (length (r .content)))) (length (r .content))
-  record-shown least h =
+  pub record-shown : Sound r → (least : ℕ) → least ≤ key r → Shown least t (length (encoded (length (r .content)))) (length (r .content))
+  record-shown sound least h =
       record {
         high = rw key-front h;
         known = rw kind-next (sound .known);
-        front = length-front;
+        front = length-front sound;
         short = rw kind-next (sound .short);
         fits = long-enough;
         text = rw (kind-next, from-content, take-at (r .content) rest _ refl) (sound .text);
@@ -75,6 +83,24 @@ module _ (r : Record) (rest t : List ℕ) (sound : Sound r) (is : t ≡ recordOc
   pub record-front : recordAt (length (encoded (length (r .content)))) (length (r .content)) t ≡ r
   unfolding recordAt
   record-front = rw (ads-front, tab-next, kind-next, from-content, take-at (r .content) rest _ refl)
+
+  -- what is shown of a record's octets is the record's own length
+  pub own-length : (least w n : ℕ) → Shown least t w n → (length (r .content) ≡ n) × (length (encoded (length (r .content))) ≡ w)
+  own-length least w n h = own-form (length (r .content)) (r .content ++ rest) n w (rw from-length at (h .front))
+
+  -- so that a record whose octets are judged good is sound
+  pub own-sound : OfOctets r → (least w n : ℕ) → Shown least t w n → Sound r
+  own-sound octets least w n h =
+      let o = own-length least w n h in
+      record {
+        address = six;
+        address-octets = octets .address-octets;
+        tab-octet = octets .tab-octet;
+        known = rw kind-next at (h .known);
+        short = rw (kind-next, ← o .0) at (h .short);
+        content-octets = octets .content-octets;
+        text = rw (kind-next, ← o .0, ← o .1, from-content, take-at (r .content) rest _ refl) at (h .text);
+      }
 
 -- a good record at the front of t is sound, and its octets are those of t
 module _ (least : ℕ) (t : List ℕ) (w n : ℕ) (h : Shown least t w n) (octets : (i : ℕ) → getD t i 0 < 256) where

@@ -1,6 +1,7 @@
 pub mod Encoded
 pub mod Faults
 pub mod Keys
+pub mod KindOctets
 mod Cursors
 pub mod Parts
 mod Judging

@@ -12,18 +12,16 @@ use Rattle.octets.proofs.Below.{below-drop}
 use Rattle.label.specs.Fitting.{given}
 use Rattle.number.specs.Groups.{Front, found, none, encoded, frontOf}
 use Rattle.number.proofs.Fronts.{encoded-front}
-use Rattle.number.proofs.Forms.{front-form}
-use Rattle.swap.specs.Record.{Record, Sound, Each, Rising, key, keyOf, countLimit, fileLimit}
+use Rattle.number.proofs.Forms.{front-form, own-form}
+use Rattle.swap.specs.Record.{Record, Sound, OfOctets, Each, Rising, key, keyOf, countLimit, fileLimit}
 use Rattle.swap.specs.Encoding.{recordOctets, recordsOctets, encode, Within}
 use Rattle.swap.specs.Items.{Judged, bad, good, judged, recordAt, limited}
 use Rattle.swap.specs.declared.file.Records.{Records}
 use Rattle.swap.specs.Reading.{Outcome, faulty, listed, preceded, readRecords, readCounted, readFile, answered, verdictOf, inRecords}
 use Rattle.swap.proofs.Shown.{shown, shown-good, within-limit}
-use Rattle.swap.proofs.Encoded.{record-shown, record-front, from-rest, key-front, key-shown, shown-sound, shown-octets}
-use Rattle.swap.proofs.Tally.{records-good}
-
-not-listed : (o : ℕ) (rs : List Record) → faulty o ≡ listed rs → ⊥
-not-listed o rs e = let z : _≡_ {A = ℕ} 0 1 = cc in omega arith
+use Rattle.swap.proofs.Encoded.{record-shown, record-front, from-rest, key-front, key-shown, shown-sound, shown-octets, own-length, own-sound}
+use Rattle.swap.proofs.Tally.{records-bad, records-good}
+use Rattle.swap.proofs.Verdicts.{not-listed, accepted}
 
 -- records that were read: so many, sound and rising, and the octets are theirs
 pub record Listed (k least : ℕ) (t : List ℕ) (rs : List Record) : Type 0 where
@@ -66,8 +64,8 @@ records-listed least at (Each.more {r = r} {rs = rs} p s) (Rising.more h q) =
     let n = length (r .content) in
     let w = length (encoded n) in
     let t = recordOctets r ++ recordsOctets rs in
-    records-good (length rs) least at t w n (shown-good least t w n (record-shown r (recordsOctets rs) t p refl least h))
-    ∙ rw (record-front r (recordsOctets rs) t p refl, from-rest r (recordsOctets rs) t p refl, key-front r (recordsOctets rs) t p refl, records-listed (suc (key r)) (at + (8 + w + n)) s q)
+    records-good (length rs) least at t w n (shown-good least t w n (record-shown r (recordsOctets rs) t (p .address) refl p least h))
+    ∙ rw (record-front r (recordsOctets rs) t (p .address) refl, from-rest r (recordsOctets rs) t (p .address) refl, key-front r (recordsOctets rs) t (p .address) refl, records-listed (suc (key r)) (at + (8 + w + n)) s q)
 
 -- the records read from an accepted file are within all rules, and written give the same octets
 pub read-encode : (s : List ℕ) (rs : List Record) → ((i : ℕ) → getD s i 0 < 256) → readFile s ≡ listed rs → (s ≡ encode rs) × Within rs
@@ -125,3 +123,49 @@ accepted-encoding s n b e = go (readFile s) refl e
 pub encoding-accepted : (rs : List Record) → Within rs → verdictOf (encode rs) ≡ given (inRecords (length rs))
 unfolding verdictOf
 encoding-accepted rs h = rw (encode-read rs h)
+
+-- of records of octets, those whose octets are read are sound and rising, and are those that are read
+pub record Own (least : ℕ) (ps rs : List Record) : Type 0 where
+  pub same : ps ≡ rs
+  pub sound : Each Sound ps
+  pub rising : Rising least ps
+
+own-records : (least at : ℕ) (rs : List Record) {ps : List Record} → Each OfOctets ps → readRecords (length ps) least at (recordsOctets ps) ≡ listed rs → Own least ps rs
+unfolding recordsOctets readRecords preceded
+own-records least at rs Each.none e =
+    let p : [] ≡ rs = cc in
+    record { same = p; sound = Each.none; rising = Rising.none }
+own-records least at rs (Each.more {r = p} {rs = ps} o s) e = go (judged least t) refl (λ least at rs. own-records least at rs s)
+  where
+    t : List ℕ
+    t = recordOctets p ++ recordsOctets ps
+
+    go : (j : Judged) → judged least t ≡ j → ((least at : ℕ) (rs : List Record) → readRecords (length ps) least at (recordsOctets ps) ≡ listed rs → Own least ps rs) → Own least (p ∷ ps) rs
+    go (bad b) q ih = absurd (not-listed (at + b) rs (sym (records-bad (length ps) least at t b q) ∙ e))
+    go (good w n) q ih = next (readRecords (length ps) (suc (keyOf (take 7 t))) (at + (8 + w + n)) (drop (8 + w + n) t)) refl (sym (records-good (length ps) least at t w n q) ∙ e)
+      where
+        next : (out : Outcome) → readRecords (length ps) (suc (keyOf (take 7 t))) (at + (8 + w + n)) (drop (8 + w + n) t) ≡ out → preceded (recordAt w n t) out ≡ listed rs → Own least (p ∷ ps) rs
+        next (faulty b) x r = absurd (not-listed b rs r)
+        next (listed qs) x r =
+            let h = shown least t w n q in
+            let l = own-length p (recordsOctets ps) t (o .address) refl least w n h in
+            let k : keyOf (take 7 t) ≡ key p = key-front p (recordsOctets ps) t (o .address) refl in
+            let d : drop (8 + w + n) t ≡ recordsOctets ps = rw (← l .0, ← l .1) (from-rest p (recordsOctets ps) t (o .address) refl) in
+            let f : recordAt w n t ≡ p = rw (← l .0, ← l .1) (record-front p (recordsOctets ps) t (o .address) refl) in
+            let m = ih (suc (key p)) (at + (8 + w + n)) qs (rw (d, k) at x) in
+            let a : recordAt w n t ∷ qs ≡ rs = cc in
+            record {
+              same = rw (m .same, ← f) a;
+              sound = Each.more (own-sound p (recordsOctets ps) t (o .address) refl o least w n h) (m .sound);
+              rising = Rising.more {least = least} {r = p} {rs = ps} (rw k at (h .high)) (m .rising);
+            }
+
+-- records of octets whose encoding is accepted are within all rules, as many as the verdict says
+pub accepted-own : (ps : List Record) (c : Records) → Each OfOctets ps → verdictOf (encode ps) ≡ given c → Within ps × (length ps ≡ c .0)
+unfolding encode
+accepted-own ps c o e =
+    let a = accepted (encode ps) c e in
+    let f = own-form (length ps) (recordsOctets ps) (a .count) (a .width) (a .front) in
+    let d : drop (a .width) (encode ps) ≡ recordsOctets ps = drop-at (encoded (length ps)) (recordsOctets ps) (a .width) (f .1) in
+    let m = own-records 0 (a .width) (a .records) o (rw (← f .0, d) at (a .read)) in
+    (record { sound = m .sound; rising = m .rising; few = rw (f .0) (a .few); small = a .small }, ap length (m .same) ∙ a .counted)

@@ -8,12 +8,13 @@ use native.Mathlib.Omega.{arith}
 use lib.ListN.{length, getD, take, drop, length-drop, drop-of-length-le}
 use lib.Seq.{drop-drop, drop-cons}
 use Rattle.label.specs.Fitting.{Answer, given, refused, inOctets}
+use Rattle.number.specs.Answers.{swapFault}
 use Rattle.swap.specs.declared.item.Entry.{Entry}
 use Rattle.swap.specs.declared.item.Item.the-variants.{Good, Bad}
 use Rattle.swap.specs.declared.file.Records.{Records}
 use Rattle.swap.specs.Record.{Record, keyOf, kindOf}
 use Rattle.swap.specs.Items.{Judged, bad, good, judged, recordAt}
-use Rattle.swap.specs.Reading.{Outcome, faulty, listed, preceded, readRecords, inRecords, swapFault, answered}
+use Rattle.swap.specs.Reading.{Outcome, faulty, listed, preceded, readRecords, inRecords, answered}
 use Rattle.swap.specs.Cursor.{placedItem, itemAt}
 use Rattle.swap.proofs.Shown.{shown}
 

@@ -1,14 +1,20 @@
 -- The verdict by the file's length and its count.
 use Prim.Native.Nat.{ℕ, _≤_, _<_}
-use mathlib.Core.Path.{_≡_}
+use mathlib.Core.Path.{_≡_, refl, sym, ap, _∙_}
+use mathlib.Core.Bool.{Bool, true, false}
 use mathlib.Core.List.{List}
+use native.Mathlib.Omega.{arith}
 use lib.ListN.{length, drop}
-use borrow.Author.Tests.{lt-ltb, le-ltb, le-leb, lt-leb}
-use Rattle.label.specs.Fitting.{refused, inOctets}
-use Rattle.number.specs.Groups.{found, none, frontOf}
-use Rattle.swap.specs.Record.{fileLimit, countLimit}
+use lib.Dec.{ltb}
+use borrow.Author.Tests.{lt-ltb, le-ltb, le-leb, lt-leb, ltb-true, ltb-false}
+use Rattle.label.specs.declared.Octets.{Octets}
+use Rattle.label.specs.Fitting.{given, refused, inOctets}
+use Rattle.number.specs.Answers.{swapFault}
+use Rattle.number.specs.Groups.{Front, found, none, frontOf}
+use Rattle.swap.specs.declared.file.Records.{Records}
+use Rattle.swap.specs.Record.{Record, fileLimit, countLimit}
 use Rattle.swap.specs.Items.{limited}
-use Rattle.swap.specs.Reading.{verdictOf, readFile, readCounted, readRecords, answered, swapFault}
+use Rattle.swap.specs.Reading.{Outcome, faulty, listed, verdictOf, readFile, readCounted, readRecords, answered, inRecords}
 
 module _ (s : List ℕ) where
   pub verdict-long : fileLimit < length s → refused swapFault (inOctets fileLimit) ≡ verdictOf s
@@ -27,3 +33,54 @@ module _ (s : List ℕ) where
     pub verdict-records : (n w : ℕ) → frontOf s ≡ found n w → n ≤ countLimit → answered (readRecords n 0 w (drop w s)) ≡ verdictOf s
     unfolding verdictOf readFile readCounted limited
     verdict-records n w e k = rw (le-ltb fileLimit (length s) h, e, le-leb n countLimit k)
+
+pub not-listed : (o : ℕ) (rs : List Record) → faulty o ≡ listed rs → ⊥
+not-listed o rs e = let z : _≡_ {A = ℕ} 0 1 = cc in omega arith
+
+-- what an accepted file has: a count and so many records, within the limits
+pub record Accepted (s : List ℕ) (c : Records) : Type 0 where
+  pub count : ℕ
+  pub width : ℕ
+  pub records : List Record
+  pub small : length s ≤ fileLimit
+  pub front : frontOf s ≡ found count width
+  pub few : count ≤ countLimit
+  pub read : readRecords count 0 width (drop width s) ≡ listed records
+  pub counted : length records ≡ c .0
+
+module _ (s : List ℕ) (c : Records) (e : verdictOf s ≡ given c) where
+  clash : (n : ℕ) (o : Octets) → refused n o ≡ verdictOf s → ⊥
+  clash n o q = let z : _≡_ {A = ℕ} 0 1 = cc in omega arith
+
+  -- by its length, its count and its records in turn
+  module _ (h : length s ≤ fileLimit) (n w : ℕ) (f : frontOf s ≡ found n w) where
+    by-records : n ≤ countLimit → (out : Outcome) → readRecords n 0 w (drop w s) ≡ out → Accepted s c
+    by-records k (faulty o) q = absurd (clash _ _ (sym (ap answered q) ∙ verdict-records s h n w f k))
+    by-records k (listed rs) q =
+        let g : given (inRecords (length rs)) ≡ given c = sym (ap answered q) ∙ verdict-records s h n w f k ∙ e in
+        let r : inRecords (length rs) ≡ c = cc in
+        record {
+          count = n;
+          width = w;
+          records = rs;
+          small = h;
+          front = f;
+          few = k;
+          read = q;
+          counted = ap (λ (x : Records). x .0) r;
+        }
+
+    by-count : (b : Bool) → ltb countLimit n ≡ b → Accepted s c
+    by-count true q = absurd (clash _ _ (verdict-many s h n w f (ltb-true _ _ q)))
+    by-count false q = by-records (ltb-false countLimit n q) (readRecords n 0 w (drop w s)) refl
+
+  by-front : length s ≤ fileLimit → (f : Front) → frontOf s ≡ f → Accepted s c
+  by-front h none q = absurd (clash _ _ (verdict-none s h q))
+  by-front h (found n w) q = by-count h n w q (ltb countLimit n) refl
+
+  by-length : (b : Bool) → ltb fileLimit (length s) ≡ b → Accepted s c
+  by-length true q = absurd (clash _ _ (verdict-long s (ltb-true _ _ q)))
+  by-length false q = by-front (ltb-false _ _ q) (frontOf s) refl
+
+  pub accepted : Accepted s c
+  accepted = by-length (ltb fileLimit (length s)) refl

@@ -2,10 +2,11 @@
 use Prim.Native.Nat.{ℕ, _+_, _-_}
 use mathlib.Core.Path.{_≡_}
 use mathlib.Core.Bool.{cond}
-use mathlib.Core.List.{List, []}
+use mathlib.Core.List.{List, [], _∷_}
 use lib.Dec.{leb, eqb}
 use lib.ListN.{length, getD, take, drop, replicate}
 use Rattle.label.specs.Fitting.{inOctets}
+use Rattle.number.specs.Answers.{swapFault}
 use Rattle.number.specs.Groups.{Front, found, none, encoded, frontOf}
 use Rattle.swap.specs.declared.kind.Kind.{Kind}
 use Rattle.swap.specs.declared.item.Entry.{Entry}
@@ -40,13 +41,25 @@ startAfter (found n w) = record { at = w; left = inRecords n }
 unfoldable pub startOf : List ℕ → Cursor
 startOf s = startAfter (frontOf s)
 
-unfoldable pub followed : ℕ → Item → Next
-followed left (Bad o) = next.Forged
-followed left (Good e) = next.Record e (record { at = e .from + e .length .0; left = inRecords (left - 1) })
+-- what stands at a cursor, in document 01's terms: a record with the cursor after it, the end, or a number
+pub data Standing : Type 0 where
+  recordHere : Entry → Cursor → Standing
+  fileEnd : Standing
+  refusedWith : ℕ → Standing
 
--- the record that stands at a cursor, judged by its own items alone: Forged where none does
-unfoldable pub nextAt : List ℕ → Cursor → Next
-nextAt s c = cond (eqb (c .left .0) 0) next.End (followed (c .left .0) (itemAt 0 s (c .at)))
+-- 01, Numbers handed back: 18 where no record of the file stands; a record and the end have no number
+abbrev pub answerOfNext : Next → Standing
+answerOfNext (next.Record e after) = recordHere e after
+answerOfNext next.End = fileEnd
+answerOfNext next.NoRecord = refusedWith swapFault
+
+unfoldable pub followed : ℕ → Item → Standing
+followed left (Bad o) = refusedWith swapFault
+followed left (Good e) = recordHere e (record { at = e .from + e .length .0; left = inRecords (left - 1) })
+
+-- the record that stands at a cursor, judged by its own items alone: 18 where none does
+unfoldable pub nextAt : List ℕ → Cursor → Standing
+nextAt s c = cond (eqb (c .left .0) 0) fileEnd (followed (c .left .0) (itemAt 0 s (c .at)))
 
 -- the ADS and the data of an entry: zeros, and no octets, where the file has no such part
 unfoldable pub adsOf : List ℕ → Entry → List ℕ
@@ -59,11 +72,20 @@ contentOf s e = cond (leb (e .from + e .length .0) (length s)) (take (e .length 
 unfoldable pub cursorAfter : ℕ → List Record → Cursor
 cursorAfter count passed = record { at = length (encoded count) + length (recordsOctets passed); left = inRecords (count - length passed) }
 
+-- an entry of a file stands for this record
+pub record Shows (s : List ℕ) (e : Entry) (r : Record) : Type 0 where
+  pub ads : adsOf s e ≡ r .ads
+  pub tab : e .tab ≡ r .tab
+  pub kind : e .kind ≡ kindOf (r .kind)
+  pub content : contentOf s e ≡ r .content
+
 -- at a cursor a file gives this record, and another cursor after it
 pub record Gives (s : List ℕ) (c : Cursor) (r : Record) (after : Cursor) : Type 0 where
   pub entry : Entry
-  pub here : nextAt s c ≡ next.Record entry after
-  pub ads : adsOf s entry ≡ r .ads
-  pub tab : entry .tab ≡ r .tab
-  pub kind : entry .kind ≡ kindOf (r .kind)
-  pub content : contentOf s entry ≡ r .content
+  pub here : nextAt s c ≡ recordHere entry after
+  pub shows : Shows s entry r
+
+-- from a cursor on a file gives these records one after the other, and then the end
+pub data GivesAll (s : List ℕ) : Cursor → List Record → Type 0 where
+  ended : {c : Cursor} → nextAt s c ≡ fileEnd → GivesAll s c []
+  further : {c after : Cursor} {r : Record} {rs : List Record} → Gives s c r after → GivesAll s after rs → GivesAll s c (r ∷ rs)

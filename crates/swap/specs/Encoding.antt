@@ -5,7 +5,7 @@ use lib.ListN.{length}
 use Rattle.number.specs.Groups.{encoded}
 use Rattle.swap.specs.Record.{Record, Sound, Each, Rising, countLimit, fileLimit}
 
--- ADS 6, TAB 1, kind 1, length, data
+-- 01, Swap file: "ADS 6, TAB 1, kind 1 (0 raw, 1 label), length, data"
 unfoldable pub recordOctets : Record → List ℕ
 recordOctets r = r .ads ++ r .tab ∷ r .kind ∷ encoded (length (r .content)) ++ r .content
 
@@ -13,7 +13,7 @@ unfoldable pub recordsOctets : List Record → List ℕ
 recordsOctets [] = []
 recordsOctets (r ∷ rs) = recordOctets r ++ recordsOctets rs
 
--- the count of records, then each
+-- 01, Swap file: "Count of records, then each"
 unfoldable pub encode : List Record → List ℕ
 encode rs = encoded (length rs) ++ recordsOctets rs
 

@@ -5,6 +5,7 @@ use mathlib.Core.List.{List, [], _∷_}
 use lib.Dec.{ltb}
 use lib.ListN.{length, take, drop}
 use Rattle.label.specs.Fitting.{Answer, given, refused, inOctets}
+use Rattle.number.specs.Answers.{swapFault}
 use Rattle.number.specs.Groups.{Front, found, none, frontOf}
 use Rattle.swap.specs.declared.file.Records.{Records}
 use Rattle.swap.specs.declared.file.Verdict.{Verdict}
@@ -20,7 +21,7 @@ unfoldable pub preceded : Record → Outcome → Outcome
 preceded r (faulty o) = faulty o
 preceded r (listed rs) = listed (r ∷ rs)
 
--- so many records, each above the one before, from an offset on, and nothing after them
+-- so many records, each above the one before, from an offset on; 01, Swap file: "Nothing follows the last record"
 unfoldable pub readRecords : ℕ → ℕ → ℕ → List ℕ → Outcome
 readRecords zero least at [] = listed []
 readRecords zero least at (o ∷ s) = faulty at
@@ -34,22 +35,19 @@ unfoldable pub readCounted : Front → List ℕ → Outcome
 readCounted none s = faulty 0
 readCounted (found n w) s = readRecords n 0 w (drop w s)
 
--- a file too long is bad at its limit, whatever stands in it
+-- 01, Swap file: "65,536 for a file too long (tested first)", whatever stands in it
 unfoldable pub readFile : List ℕ → Outcome
 readFile s = cond (ltb fileLimit (length s)) (faulty fileLimit) (readCounted (limited countLimit (frontOf s)) s)
 
 abbrev pub inRecords : ℕ → Records
 inRecords count = record { 0 = count }
 
--- 01, Numbers handed back: a faulty swap file
-abbrev pub swapFault : ℕ
-swapFault = 18
-
+-- the number and values of each case
 abbrev pub answerOfVerdict : Verdict → Answer Records
 answerOfVerdict (Accepted count) = given count
 answerOfVerdict (Fault offset) = refused swapFault offset
 
--- what reading a file answers: its count of records, or 18 and the offset
+-- 01, Swap file: "A fault is 18 with an offset"; an accepted file has its count of records
 abbrev pub answered : Outcome → Answer Records
 answered (faulty o) = refused swapFault (inOctets o)
 answered (listed rs) = given (inRecords (length rs))

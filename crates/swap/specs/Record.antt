@@ -16,7 +16,7 @@ pub record Record : Type 0 where
   pub kind : ℕ
   pub content : List ℕ
 
--- the octet that stands for a kind: 0 raw, 1 label
+-- 01, Swap file: "kind 1 (0 raw, 1 label)"
 abbrev pub kindOctet : Kind → ℕ
 kindOctet Raw = 0
 kindOctet Label = 1
@@ -28,19 +28,21 @@ knownKind octet = leb octet 1
 unfoldable pub kindOf : ℕ → Kind
 kindOf octet = cond (eqb octet 1) Label Raw
 
--- the most octets that the data of a kind has
+-- 01, Swap file: "length 0 to 116"
 unfoldable pub lengthLimit : Kind → ℕ
 lengthLimit Raw = 116
 lengthLimit Label = 116
 
--- the data of a label is well-formed
+-- 01, Swap file: "label data is well-formed"
 unfoldable pub acceptable : Kind → List ℕ → Bool
 acceptable Raw content = true
 acceptable Label content = wellFormed content
 
+-- 01, Swap file: "Count 0 to 4,096"
 abbrev pub countLimit : ℕ
 countLimit = 4096
 
+-- 01, Swap file: "file at most 65,536 octets"
 abbrev pub fileLimit : ℕ
 fileLimit = 65536
 
@@ -49,7 +51,7 @@ unfoldable pub numberFrom : ℕ → List ℕ → ℕ
 numberFrom n [] = n
 numberFrom n (o ∷ s) = numberFrom (n * 256 + o) s
 
--- ADS then TAB, by which records rise
+-- ADS then TAB as one number, by which records rise
 unfoldable pub keyOf : List ℕ → ℕ
 keyOf s = numberFrom 0 s
 
@@ -66,11 +68,18 @@ pub record Sound (r : Record) : Type 0 where
   pub content-octets : (i : ℕ) → getD (r .content) i 0 < 256
   pub text : acceptable (kindOf (r .kind)) (r .content) ≡ true
 
+-- a record of octets, with any octet for its kind and data of any length: what a call can be given
+pub record OfOctets (r : Record) : Type 0 where
+  pub address : length (r .ads) ≡ 6
+  pub address-octets : (i : ℕ) → getD (r .ads) i 0 < 256
+  pub tab-octet : r .tab < 256
+  pub content-octets : (i : ℕ) → getD (r .content) i 0 < 256
+
 pub data Each (P : Record → Type 0) : List Record → Type 0 where
   none : Each P []
   more : {r : Record} {rs : List Record} → P r → Each P rs → Each P (r ∷ rs)
 
--- records from a least key on, each above the one before
+-- 01, Swap file: "Records rise strictly by ADS then TAB"; the first has no lower key than the least
 pub data Rising : ℕ → List Record → Type 0 where
   none : {least : ℕ} → Rising least []
   more : {least : ℕ} {r : Record} {rs : List Record} → least ≤ key r → Rising (suc (key r)) rs → Rising least (r ∷ rs)

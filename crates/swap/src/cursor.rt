@@ -1,6 +1,6 @@
 // The records of a file one by one.
 ghost use mathlib.Core.Path.{_≡_};
-ghost use Rattle.swap.specs.Cursor.{startOf, nextAt, adsOf, contentOf};
+ghost use Rattle.swap.specs.Cursor.{startOf, answerOfNext, nextAt, adsOf, contentOf};
 use crate::file::Records;
 use crate::item::Entry;
 use crate::item::Item;
@@ -17,7 +17,7 @@ pub struct Cursor {
 pub enum Next {
     Record(Entry, Cursor),
     End,
-    Forged,
+    NoRecord,
 }
 
 // The cursor of the first record; a file with no count has none.
@@ -39,7 +39,7 @@ pub fn start(file: &[u8]) -> Cursor
 impl Cursor {
     // The record at the cursor. Its items are judged anew, but not its order, so that no cursor leads out of the file.
     pub fn next(self, file: &[u8]) -> Next
-        ensures { λ r. ⌜ r ≡ nextAt (now (file .entry)) self ⌝ }
+        ensures { λ r. ⌜ answerOfNext r ≡ nextAt (now (file .entry)) self ⌝ }
     {
         let at = self.at;
         let records = self.left;
@@ -48,11 +48,11 @@ impl Cursor {
             return Next::End;
         }
         if file.len() < at {
-            return Next::Forged;
+            return Next::NoRecord;
         }
         let item = item_at(file, at, 0);
         match item {
-            Item::Bad(_) => Next::Forged,
+            Item::Bad(_) => Next::NoRecord,
             Item::Good(entry) => {
                 let length = entry.length;
                 let after = Cursor {

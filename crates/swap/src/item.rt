@@ -1,9 +1,8 @@
 // The items of a record, judged in file order.
 ghost use mathlib.Core.Path.{_≡_};
 ghost use Prim.Native.Nat.{_+_, _≤_};
-ghost use lib.ListN.{length, take, drop};
+ghost use lib.ListN.{length, take};
 ghost use Rattle.swap.specs.Record.{keyOf};
-ghost use Rattle.swap.specs.Items.{judged};
 ghost use Rattle.swap.specs.Cursor.{itemAt, contentAt};
 use crate::kind::Kind;
 use crate::kind::is_acceptable;

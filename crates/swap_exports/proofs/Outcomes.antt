@@ -1,18 +1,18 @@
 -- Each way out of the calls, against the definition.
 use Prim.Native.Nat.{ℕ}
-use mathlib.Core.Path.{_≡_, refl, sym, ap, _∙_}
+use mathlib.Core.Path.{_≡_, ap, _∙_}
 use mathlib.Core.Bool.{true}
 use mathlib.Core.List.{List}
 use Rattle.label.specs.declared.Octets.{Octets}
 use Rattle.label.specs.Fitting.{Answer, given, refused}
+use Rattle.number.specs.Answers.{swapFault}
 use Rattle.swap.specs.declared.file.Records.{Records}
 use Rattle.swap.specs.declared.item.Entry.{Entry}
 use Rattle.swap.specs.declared.cursor.Cursor.{Cursor}
 use Rattle.swap.specs.declared.cursor.Next.{Next}
 use Rattle.swap.specs.declared.cursor.Next.the-variants as next
 use Rattle.swap.specs.Record.{kindOctet}
-use Rattle.swap.specs.Reading.{swapFault}
-use Rattle.swap.specs.Cursor.{adsOf}
+use Rattle.swap.specs.Cursor.{Standing, answerOfNext, adsOf}
 use Rattle.swap_write.specs.Writing.{Writing, wrote, short, faulty}
 use Rattle.swap_list.specs.declared.RecordList.{RecordList}
 use Rattle.swap_list.specs.declared.Added.{Added}
@@ -29,22 +29,22 @@ module _ (a : Answer Records) (records offset : ℕ) where
   unfolding judgedAs
   judged-refused n o e = rw (← e)
 
-module _ (n : Next) (s : List ℕ) (b : Shown) where
-  pub shown-end : n ≡ next.End → nothing 0 b ≡ shown n s b
+module _ (a : Next) (s : List ℕ) (b : Shown) where
+  pub shown-end : a ≡ next.End → nothing 0 b ≡ shown (answerOfNext a) s b
   unfolding shown
   shown-end e = rw e
 
-  pub shown-forged : n ≡ next.Forged → nothing swapFault b ≡ shown n s b
+  pub shown-none : a ≡ next.NoRecord → nothing swapFault b ≡ shown (answerOfNext a) s b
   unfolding shown
-  shown-forged e = rw e
+  shown-none e = rw e
 
-  pub shown-record : (entry : Entry) (after : Cursor) (its : List ℕ) (octet : ℕ) → n ≡ next.Record entry after → its ≡ adsOf s entry → octet ≡ kindOctet (entry .kind) → record { number = 0; at = after .at; left = after .left .0; found = true; ads = its; tab = entry .tab; kind = octet; from = entry .from; length = entry .length .0 } ≡ shown n s b
+  pub shown-record : (entry : Entry) (after : Cursor) (its : List ℕ) (octet : ℕ) → a ≡ next.Record entry after → its ≡ adsOf s entry → octet ≡ kindOctet (entry .kind) → record { number = 0; at = after .at; left = after .left .0; found = true; ads = its; tab = entry .tab; kind = octet; from = entry .from; length = entry .length .0 } ≡ shown (answerOfNext a) s b
   unfolding shown
-  shown-record entry after its octet e a k = rw (e, a, k)
+  shown-record entry after its octet e i k = rw (e, i, k)
 
-  -- the answer that was shown is the definition's
-  pub shown-same : (m : Next) (x : Shown) → x ≡ shown n s b → n ≡ m → x ≡ shown m s b
-  shown-same m x e p = e ∙ ap (λ (k : Next). shown k s b) p
+-- the answer that was shown is the definition's
+pub shown-same : (k m : Standing) (s : List ℕ) (b x : Shown) → x ≡ shown k s b → k ≡ m → x ≡ shown m s b
+shown-same k m s b x e p = e ∙ ap (λ (n : Standing). shown n s b) p
 
 module _ (a : Writing) (b t : List ℕ) (length offset : ℕ) (left : b ≡ t) where
   pub written-whole : (octets : Octets) → wrote octets ≡ a → record { number = 0; buffer = b; length = octets .0; offset = offset } ≡ writtenAs a t length offset

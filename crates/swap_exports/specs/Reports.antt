@@ -4,11 +4,8 @@ use mathlib.Core.Bool.{Bool, true, false}
 use mathlib.Core.List.{List}
 use Rattle.label.specs.Fitting.{Answer, given, refused}
 use Rattle.swap.specs.declared.file.Records.{Records}
-use Rattle.swap.specs.declared.cursor.Next.{Next}
-use Rattle.swap.specs.declared.cursor.Next.the-variants as next
 use Rattle.swap.specs.Record.{kindOctet}
-use Rattle.swap.specs.Reading.{swapFault}
-use Rattle.swap.specs.Cursor.{adsOf}
+use Rattle.swap.specs.Cursor.{Standing, recordHere, fileEnd, refusedWith, adsOf}
 use Rattle.swap_write.specs.Writing.{Writing, wrote, short, faulty}
 use Rattle.swap_list.specs.declared.RecordList.{RecordList}
 use Rattle.swap_list.specs.Adding as list
@@ -40,11 +37,11 @@ abbrev pub nothing : ℕ → Shown → Shown
 nothing number b =
     record { number = number; at = b .at; left = b .left; found = false; ads = b .ads; tab = b .tab; kind = b .kind; from = b .from; length = b .length }
 
--- a record of the file s with the cursor after it; the end is 0 with no record; a cursor that is none of the file's is 18, at its own offset
-unfoldable pub shown : Next → List ℕ → Shown → Shown
-shown next.End s b = nothing 0 b
-shown next.Forged s b = nothing swapFault b
-shown (next.Record e after) s b =
+-- a record of the file s with the cursor after it; the end is 0 with no record; at a number too only the mark changes
+unfoldable pub shown : Standing → List ℕ → Shown → Shown
+shown fileEnd s b = nothing 0 b
+shown (refusedWith n) s b = nothing n b
+shown (recordHere e after) s b =
     record {
       number = 0;
       at = after .at;

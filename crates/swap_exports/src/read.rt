@@ -1,7 +1,7 @@
 // Reading a file.
 ghost use mathlib.Core.Path.{_≡_};
 ghost use Rattle.swap.specs.Reading.{verdictOf, inRecords};
-ghost use Rattle.swap.specs.Cursor.{startOf, nextAt};
+ghost use Rattle.swap.specs.Cursor.{startOf, answerOfNext, nextAt};
 ghost use Rattle.swap_station.specs.Station.{nextFor};
 ghost use Rattle.swap_exports.specs.Reports.{judgedAs, shown};
 use swap::Cursor;
@@ -99,14 +99,14 @@ fn show(
     from: &mut usize,
     length: &mut usize,
 ) -> u8
-    ensures { λ r. ⌜ record { number = r; at = now (at .exit); left = now (left .exit); found = now (found .exit); ads = now (ads .exit); tab = now (tab .exit); kind = now (kind .exit); from = now (from .exit); length = now (length .exit) } ≡ shown next (now (file .entry)) (record { number = 0; at = now (at .entry); left = now (left .entry); found = now (found .entry); ads = now (ads .entry); tab = now (tab .entry); kind = now (kind .entry); from = now (from .entry); length = now (length .entry) }) ⌝ }
+    ensures { λ r. ⌜ record { number = r; at = now (at .exit); left = now (left .exit); found = now (found .exit); ads = now (ads .exit); tab = now (tab .exit); kind = now (kind .exit); from = now (from .exit); length = now (length .exit) } ≡ shown (answerOfNext next) (now (file .entry)) (record { number = 0; at = now (at .entry); left = now (left .entry); found = now (found .entry); ads = now (ads .entry); tab = now (tab .entry); kind = now (kind .entry); from = now (from .entry); length = now (length .entry) }) ⌝ }
 {
     match next {
         Next::End => {
             *found = false;
             0
         }
-        Next::Forged => {
+        Next::NoRecord => {
             *found = false;
             18
         }

@@ -7,7 +7,7 @@ use native.Mathlib.Omega.{arith}
 use lib.ListN.{length, take, length-append}
 use lib.Dec.{leb}
 use lib.Seq.{take-at, drop-at, take-append-add, drop-append-add}
-use Rattle.swap.specs.Record.{Record, Sound, Each, keyOf, key}
+use Rattle.swap.specs.Record.{Record, OfOctets, Each, keyOf, key}
 use Rattle.swap.specs.Encoding.{encode}
 use Rattle.swap.specs.Reading.{verdictOf}
 use Rattle.swap_write.specs.Heads.{headSize, headOf, headsOf, contentsOf}
@@ -41,21 +41,21 @@ pub record InPlace (r : Record) (rs : List Record) : Type 0 where
   pub heads : inserted (headsOf rs) (placeAmong (length rs) (key r) (headsOf rs) .head) (headOf r) ≡ headsOf (placed r rs)
   pub contents : inserted (contentsOf rs) (placeAmong (length rs) (key r) (headsOf rs) .from) (r .content) ≡ contentsOf (placed r rs)
 
-module _ (r q : Record) (qs : List Record) (sound : Sound q) where
+module _ (r q : Record) (qs : List Record) (six : length (q .ads) ≡ 6) where
   later : leb (key q) (key r) ≡ true → InPlace r qs → InPlace r (q ∷ qs)
   unfolding placed headsOf contentsOf placeAmong
   later e ih =
-      let k = head-key q (headsOf qs) (sound .address) in
-      let d = drop-at (headOf q) (headsOf qs) 10 (ten q (headsOf qs) sound) in
+      let k = head-key q (headsOf qs) (six) in
+      let d = drop-at (headOf q) (headsOf qs) 10 (ten q (headsOf qs) six) in
       record {
-        heads = rw (k, e, d, inserted-past (headOf q) (headsOf qs) (headOf r) 10 _ (ten q (headsOf qs) sound), ih .heads);
-        contents = rw (k, e, d, stated q (headsOf qs) sound, inserted-past (q .content) (contentsOf qs) (r .content) (length (q .content)) _ refl, ih .contents);
+        heads = rw (k, e, d, inserted-past (headOf q) (headsOf qs) (headOf r) 10 _ (ten q (headsOf qs) six), ih .heads);
+        contents = rw (k, e, d, stated q (headsOf qs) six, inserted-past (q .content) (contentsOf qs) (r .content) (length (q .content)) _ refl, ih .contents);
       }
 
   here : leb (key q) (key r) ≡ false → InPlace r (q ∷ qs)
   unfolding placed headsOf contentsOf placeAmong
   here e =
-      let k = head-key q (headsOf qs) (sound .address) in
+      let k = head-key q (headsOf qs) (six) in
       record {
         heads = rw (k, e) (inserted-front _ (headOf r));
         contents = rw (k, e) (inserted-front _ (r .content));
@@ -68,13 +68,13 @@ module _ (r q : Record) (qs : List Record) (sound : Sound q) where
       go true e = later e ih
       go false e = here e
 
-in-place : (r : Record) {rs : List Record} → Each Sound rs → InPlace r rs
+in-place : (r : Record) {rs : List Record} → Each OfOctets rs → InPlace r rs
 unfolding placed headsOf contentsOf placeAmong
 in-place r Each.none = record { heads = inserted-front [] (headOf r); contents = inserted-front [] (r .content) }
-in-place r (Each.more {r = q} {rs = qs} p s) = turn r q qs p (in-place r s)
+in-place r (Each.more {r = q} {rs = qs} p s) = turn r q qs (p .address) (in-place r s)
 
 -- so the call inserts into a list of records
-pub with-record : (r : Record) (rs : List Record) → length (r .ads) ≡ 6 → Each Sound rs → (headsWith (headOf r) (headsOf rs) ≡ headsOf (placed r rs)) × (contentsWith (headOf r) (r .content) (headsOf rs) (contentsOf rs) ≡ contentsOf (placed r rs))
+pub with-record : (r : Record) (rs : List Record) → length (r .ads) ≡ 6 → Each OfOctets rs → (headsWith (headOf r) (headsOf rs) ≡ headsOf (placed r rs)) × (contentsWith (headOf r) (r .content) (headsOf rs) (contentsOf rs) ≡ contentsOf (placed r rs))
 unfolding headsWith contentsWith placeOf
 with-record r rs a s =
     let n : length (headsOf rs) / 10 ≡ length rs = omega (arith, heads-long s) in
@@ -82,18 +82,18 @@ with-record r rs a s =
     let g = in-place r s in
     (rw (n, k) (g .heads), rw (n, k) (g .contents))
 
-placed-sound : (r : Record) {rs : List Record} → Sound r → Each Sound rs → Each Sound (placed r rs)
+pub placed-octets : (r : Record) {rs : List Record} → OfOctets r → Each OfOctets rs → Each OfOctets (placed r rs)
 unfolding placed
-placed-sound r p Each.none = Each.more p Each.none
-placed-sound r p (Each.more {r = q} {rs = qs} h s) = go (leb (key q) (key r)) refl (placed-sound r p s)
+placed-octets r p Each.none = Each.more p Each.none
+placed-octets r p (Each.more {r = q} {rs = qs} h s) = go (leb (key q) (key r)) refl (placed-octets r p s)
   where
-    go : (b : Bool) → leb (key q) (key r) ≡ b → Each Sound (placed r qs) → Each Sound (placed r (q ∷ qs))
+    go : (b : Bool) → leb (key q) (key r) ≡ b → Each OfOctets (placed r qs) → Each OfOctets (placed r (q ∷ qs))
     go true e ih = rw e (Each.more h ih)
     go false e ih = rw e (Each.more p (Each.more h s))
 
--- a sound record added to a list that holds sound records: the verdict is on the encoding of the records with it in its place
-pub adding-encoded : (list : RecordList) (r : Record) (rs : List Record) (heads contents : List ℕ) → take (headSize * list .records .0) heads ≡ headsOf rs → take (list .octets .0) contents ≡ contentsOf rs → Sound r → Each Sound rs → adding list r heads contents ≡ judgedAdding (verdictOf (encode (placed r rs))) (headsOf (placed r rs)) (contentsOf (placed r rs)) heads contents
+-- a record added to a list that holds records: the verdict is on the encoding of the records with it in its place
+pub adding-encoded : (list : RecordList) (r : Record) (rs : List Record) (heads contents : List ℕ) → take (headSize * list .records .0) heads ≡ headsOf rs → take (list .octets .0) contents ≡ contentsOf rs → OfOctets r → Each OfOctets rs → adding list r heads contents ≡ judgedAdding (verdictOf (encode (placed r rs))) (headsOf (placed r rs)) (contentsOf (placed r rs)) heads contents
 unfolding adding addingHead takenOver
 adding-encoded list r rs heads contents h c p s =
     let w = with-record r rs (p .address) s in
-    rw (h, c, w .0, w .1, file-encode (placed r rs) (placed-sound r p s))
+    rw (h, c, w .0, w .1, file-encode (placed r rs) (placed-octets r p s))

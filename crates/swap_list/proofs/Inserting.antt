@@ -1,41 +1,40 @@
 -- A piece inserted by three copies.
-use Prim.Native.Nat.{ℕ, _+_, _-_, _≤_, _<_}
+use Prim.Native.Nat.{ℕ, _+_, _-_, _≤_, _<_, min}
 use mathlib.Core.Path.{_≡_, refl, sym, ap, _∙_}
 use mathlib.Core.List.{List, _++_, append-nil}
 use mathlib.Core.Bool.{Bool, true, false}
+use native.Mathlib.Nat.{le-of-lt, min-eq-left, min-eq-right}
 use native.Mathlib.Omega.{arith}
 use lib.ListN.{length, take, drop, replicate, length-replicate, length-append, length-drop, drop-of-length-le, take-append-drop}
 use lib.Dec.{leb}
 use lib.Seq.{length-take-le, take-all}
-use borrow.Author.Tests.{leb-false}
+use borrow.Author.Tests.{leb-true, leb-false}
 use Rattle.octets.specs.Splice.{spliced, fronted}
 use Rattle.octets.proofs.Splice.{spliced-front, spliced-next, take-fronted}
 use Rattle.swap.proofs.Parts.{part-rest}
-use Rattle.swap_list.specs.Adding.{lesser, inserted}
-use Rattle.swap_list.proofs.Placing.{lesser-most}
+use Rattle.swap_list.specs.Adding.{inserted}
 
 -- an offset past the end is the end
 module _ (s : List ℕ) (at : ℕ) where
-  cut-same : (take (lesser at (length s)) s ≡ take at s) × (drop (lesser at (length s)) s ≡ drop at s)
-  unfolding lesser
+  cut-same : (take (min at (length s)) s ≡ take at s) × (drop (min at (length s)) s ≡ drop at s)
   cut-same = go (leb at (length s)) refl
     where
-      go : (b : Bool) → leb at (length s) ≡ b → (take (lesser at (length s)) s ≡ take at s) × (drop (lesser at (length s)) s ≡ drop at s)
-      go true e = rw e (refl, refl)
+      go : (b : Bool) → leb at (length s) ≡ b → (take (min at (length s)) s ≡ take at s) × (drop (min at (length s)) s ≡ drop at s)
+      go true e = rw (min-eq-left (leb-true at (length s) e)) (refl, refl)
       go false e =
           let h : length s < at = leb-false at (length s) e in
-          rw e (take-all (length s) s (omega arith) ∙ sym (take-all at s (omega arith)), drop-of-length-le s {i = length s} (omega arith) ∙ sym (drop-of-length-le s {i = at} (omega arith)))
+          rw (min-eq-right (le-of-lt h)) (take-all (length s) s (omega arith) ∙ sym (take-all at s (omega arith)), drop-of-length-le s {i = length s} (omega arith) ∙ sym (drop-of-length-le s {i = at} (omega arith)))
 
   pub length-inserted : (piece : List ℕ) → length (inserted s at piece) ≡ length s + length piece
   unfolding inserted
   length-inserted piece =
       simp length-append (omega (arith, simp length-append at (ap length (take-append-drop at s))))
 
-  pub three-copies : (m piece : List ℕ) → length s + length piece ≤ length m → spliced (spliced (spliced m 0 (take (lesser at (length s)) s)) (lesser at (length s)) piece) (lesser at (length s) + length piece) (drop (lesser at (length s)) s) ≡ fronted (inserted s at piece) m
+  pub three-copies : (m piece : List ℕ) → length s + length piece ≤ length m → spliced (spliced (spliced m 0 (take (min at (length s)) s)) (min at (length s)) piece) (min at (length s) + length piece) (drop (min at (length s)) s) ≡ fronted (inserted s at piece) m
   unfolding inserted
   three-copies m piece h =
-      let cut : ℕ = lesser at (length s) in
-      let k : cut ≤ length s = lesser-most at (length s) in
+      let cut : ℕ = min at (length s) in
+      let k : cut ≤ length s = omega arith in
       let l : length (take cut s) ≡ cut = length-take-le cut s k in
       let d : length (drop cut s) ≡ length s - cut = length-drop cut s in
       let both : length (take cut s ++ piece) ≡ cut + length piece = length-append (take cut s) piece ∙ ap (λ (n : ℕ). n + length piece) l in
@@ -48,7 +47,7 @@ module _ (s : List ℕ) (at : ℕ) where
       )
 
   -- the same, copy by copy
-  pub copied : (cut : ℕ) (m piece m₁ m₂ m₃ : List ℕ) → cut ≡ lesser at (length s) → length s + length piece ≤ length m → m₁ ≡ spliced m 0 (take cut s) → m₂ ≡ spliced m₁ cut piece → m₃ ≡ spliced m₂ (cut + length piece) (take (length s - cut) (drop cut s)) → m₃ ≡ fronted (inserted s at piece) m
+  pub copied : (cut : ℕ) (m piece m₁ m₂ m₃ : List ℕ) → cut ≡ min at (length s) → length s + length piece ≤ length m → m₁ ≡ spliced m 0 (take cut s) → m₂ ≡ spliced m₁ cut piece → m₃ ≡ spliced m₂ (cut + length piece) (take (length s - cut) (drop cut s)) → m₃ ≡ fronted (inserted s at piece) m
   copied cut m piece m₁ m₂ m₃ c h e₁ e₂ e₃ = e₃ ∙ rw (part-rest s cut, e₂, e₁, c) (three-copies m piece h)
 
 -- six octets and four make a head

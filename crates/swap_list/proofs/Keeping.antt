@@ -12,7 +12,7 @@ use Rattle.swap.specs.declared.file.Records.{Records}
 use Rattle.swap.specs.Record.{keyOf}
 use Rattle.swap.specs.Reading.{verdictOf}
 use Rattle.swap_write.specs.Heads.{fileOf}
-use Rattle.swap_write.proofs.Laid.{accepted-heads}
+use Rattle.swap_write.proofs.Laid.{accepted-body}
 use Rattle.swap_list.specs.declared.place.Place.{Place}
 use Rattle.swap_list.specs.Adding.{placeOf, inserted, headsWith, contentsWith, takenOver, judgedAdding, addingHead}
 
@@ -24,7 +24,7 @@ module _ (more all heads contents : List ℕ) where
   pub taken-given : (c : Records) (hs cs : List ℕ) → given c ≡ verdictOf (fileOf more all) → ((i : ℕ) → getD more i 0 < 256) → length heads ≡ 40960 → length more % 10 ≡ 0 → length all ≤ length contents → hs ≡ spliced heads 0 more → cs ≡ spliced contents 0 all → record { answer = given (record { records = c; octets = inOctets (length all) }); heads = hs; contents = cs } ≡ takenOver more all heads contents
   unfolding takenOver judgedAdding
   taken-given c hs cs e octets h m d p q =
-      let few : length more / 10 ≤ 4096 = accepted-heads more all c octets (sym e) .0 in
+      let few : length more / 10 ≤ 4096 = accepted-body more all c (sym e) .0 in
       rw (← e, p, q, spliced-front heads more (omega arith), spliced-front contents all d)
 
 -- the place found, and the head inserted there

@@ -1,3 +1,5 @@
+pub mod AnyOrder
+pub mod Collecting
 mod Held
 pub mod InOrder
 mod Inserting

@@ -1,21 +1,20 @@
 -- A list that adding gave back is one that the reader accepts, so that the writer never refuses it with 18.
 use Prim.Native.Nat.{ℕ, _*_, _<_}
-use mathlib.Core.Path.{_≡_, refl, sym, ap, _∙_}
+use mathlib.Core.Path.{_≡_, refl}
 use mathlib.Core.Bool.{Bool, true, false}
 use mathlib.Core.List.{List, _++_}
 use native.Mathlib.Omega.{arith}
-use lib.ListN.{length, getD, take, drop}
+use lib.ListN.{length, take, drop}
 use lib.Dec.{leb, lit<}
 use Rattle.label.specs.declared.Octets.{Octets}
 use Rattle.label.specs.Fitting.{Answer, given, refused, inOctets}
-use Rattle.octets.specs.Splice.{fronted}
 use Rattle.octets.proofs.Splice.{take-fronted}
 use Rattle.octets.proofs.Below.{Below, below-append, below-take, below-drop}
 use Rattle.swap.specs.declared.file.Records.{Records}
 use Rattle.swap.specs.Record.{Record, keyOf}
 use Rattle.swap.specs.Reading.{verdictOf}
 use Rattle.swap_write.specs.Heads.{headSize, headOf, fileOf}
-use Rattle.swap_write.specs.Writing.{Writing, faulty, writing, judgedWriting, laid}
+use Rattle.swap_write.specs.Writing.{faulty, writing, judgedWriting, laid}
 use Rattle.swap_write.proofs.Accepted.{accepted-long}
 use Rattle.swap_list.specs.declared.RecordList.{RecordList}
 use Rattle.swap_list.specs.Adding.{Outcome, placeOf, inserted, headsWith, contentsWith, judgedAdding, takenOver, addingHead, adding}

@@ -1,26 +1,15 @@
 -- The search for a record's place among the heads: what was passed and the place among the heads left make up the place.
 use Prim.Native.Nat.{ℕ, zero, suc, _+_, _-_, _*_, _/_, _≤_, _<_}
-use mathlib.Core.Path.{_≡_, refl}
+use mathlib.Core.Path.{_≡_}
 use mathlib.Core.List.{List}
 use native.Mathlib.Nat.{zero-add, add-zero, add-assoc}
 use native.Mathlib.Omega.{arith}
 use lib.ListN.{length, take, drop}
-use lib.Dec.{leb}
 use lib.Seq.{drop-drop}
-use mathlib.Core.Bool.{Bool, true, false}
-use borrow.Author.Tests.{le-leb, lt-leb, leb-true}
+use borrow.Author.Tests.{le-leb, lt-leb}
 use Rattle.swap.specs.Record.{keyOf}
 use Rattle.swap_write.specs.Heads.{headLength}
-use Rattle.swap_list.specs.Adding.{lesser, further, placeAmong, placeOf}
-
--- the lesser of two numbers
-pub lesser-most : (n most : ℕ) → lesser n most ≤ most
-unfolding lesser
-lesser-most n most = go (leb n most) refl
-  where
-    go : (b : Bool) → leb n most ≡ b → lesser n most ≤ most
-    go true e = rw e (leb-true n most e)
-    go false e = rw e (omega arith)
+use Rattle.swap_list.specs.Adding.{further, placeAmong, placeOf}
 
 -- where the search stands
 pub record Sought (hs : List ℕ) (key left head from : ℕ) : Type 0 where

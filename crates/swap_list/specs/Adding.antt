@@ -6,17 +6,15 @@ use lib.Dec.{leb}
 use lib.ListN.{length, take, drop}
 use Rattle.label.specs.Fitting.{Answer, given, refused, inOctets}
 use Rattle.octets.specs.Splice.{fronted}
+use Rattle.number.specs.Answers.{swapFault}
 use Rattle.swap.specs.declared.file.Records.{Records}
 use Rattle.swap.specs.Record.{Record, keyOf}
-use Rattle.swap.specs.Reading.{verdictOf, swapFault, inRecords}
+use Rattle.swap.specs.Reading.{verdictOf, inRecords}
 use Rattle.swap_write.specs.Heads.{headSize, headOf, headLength, fileOf}
 use Rattle.swap_list.specs.declared.RecordList.{RecordList}
 use Rattle.swap_list.specs.declared.Added.{Added}
 use Rattle.swap_list.specs.declared.Added.the-variants.{Kept, Fault}
 use Rattle.swap_list.specs.declared.place.Place.{Place}
-
-unfoldable pub lesser : ℕ → ℕ → ℕ
-lesser n most = cond (leb n most) n most
 
 abbrev pub empty : RecordList
 empty = record { records = inRecords 0; octets = inOctets 0 }
@@ -55,6 +53,7 @@ pub record Outcome : Type 0 where
   pub heads : List ℕ
   pub contents : List ℕ
 
+-- the number and values of each case
 abbrev pub answerOfAdded : Added → Answer RecordList
 answerOfAdded (Kept list) = given list
 answerOfAdded (Fault offset) = refused swapFault offset

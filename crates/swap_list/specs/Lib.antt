@@ -1,2 +1,3 @@
 pub mod Adding
+pub mod Collected
 pub mod Ordered

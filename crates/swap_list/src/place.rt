@@ -1,11 +1,11 @@
 // The head of a record, and its place among the heads of a list.
 ghost use mathlib.Core.Path.{_≡_};
 ghost use mathlib.Core.List.{_++_, _∷_, []};
-ghost use Prim.Native.Nat.{_/_, _%_, _≤_, _<_};
+ghost use Prim.Native.Nat.{min, _/_, _%_, _≤_, _<_};
 ghost use lib.ListN.{length};
-ghost use Rattle.swap_write.specs.Heads.{headLength};
-ghost use Rattle.swap_list.specs.Adding.{lesser, placeOf};
+ghost use Rattle.swap_list.specs.Adding.{placeOf};
 use swap::item::key;
+use swap_write::size::head_length;
 
 // Offsets in the heads and in their data.
 pub struct Place {
@@ -14,7 +14,7 @@ pub struct Place {
 }
 
 pub(crate) fn at_most(n: usize, most: usize) -> usize
-    ensures { λ r. ⌜ r ≡ lesser n most ⌝ }
+    ensures { λ r. ⌜ r ≡ min n most ⌝ }
 {
     if most < n { most } else { n }
 }
@@ -31,19 +31,6 @@ pub(crate) fn head_of(ads: [u8; 6], tab: u8, kind: u8, count: usize) -> [u8; 10]
     head
 }
 
-fn wide(octet: u8) -> usize
-    ensures { λ r. ⌜ r ≡ octet ⌝ }
-{
-    octet as usize
-}
-
-// The length that the head at the front states.
-fn stated(heads: &[u8]) -> usize
-    ensures { λ r. ⌜ (r ≡ headLength (now (heads .entry))) × (r < 65536) ⌝ }
-{
-    wide(octets::octet(heads, 8)) + 256 * wide(octets::octet(heads, 9))
-}
-
 // After the heads at the front that have no higher key, so that a record with a key that is there already comes after it.
 pub(crate) fn place_of(heads: &[u8], least: u64) -> Place
     requires { ⌜ length (now heads) ≤ 40960 ⌝ }
@@ -56,7 +43,7 @@ pub(crate) fn place_of(heads: &[u8], least: u64) -> Place
         if least < key(&heads[head..]) {
             return Place { head, from };
         }
-        from += stated(&heads[head..]);
+        from += head_length(&heads[head..]);
         head += 10;
         left -= 1;
     }

@@ -6,72 +6,71 @@ use mathlib.Core.List.{List}
 use native.Mathlib.Omega.{arith}
 use borrow.Author.Tests.{eq-eqb, ne-eqb}
 use Rattle.octets.specs.Part.{same}
+use Rattle.number.specs.Answers.{swapFault}
 use Rattle.swap.specs.declared.item.Entry.{Entry}
 use Rattle.swap.specs.declared.item.Item.{Item}
 use Rattle.swap.specs.declared.item.Item.the-variants.{Good, Bad}
 use Rattle.swap.specs.declared.cursor.Cursor.{Cursor}
-use Rattle.swap.specs.declared.cursor.Next.{Next}
-use Rattle.swap.specs.declared.cursor.Next.the-variants as next
 use Rattle.swap.specs.Reading.{inRecords}
-use Rattle.swap.specs.Cursor.{itemAt, nextAt, followed, adsOf}
+use Rattle.swap.specs.Cursor.{recordHere, fileEnd, refusedWith, itemAt, nextAt, followed, adsOf}
 use Rattle.swap_station.specs.Station.{chosen, firstOf, nextFor}
 
 module _ (s : List ℕ) (c : Cursor) where
   -- a record stands only where some are left, and after it is one less
-  pub next-left : (e : Entry) (after : Cursor) → nextAt s c ≡ next.Record e after → c .left .0 ≡ suc (after .left .0)
+  pub next-left : (e : Entry) (after : Cursor) → nextAt s c ≡ recordHere e after → c .left .0 ≡ suc (after .left .0)
   unfolding nextAt followed
   next-left e after h = go (c .left .0) refl (itemAt 0 s (c .at)) refl
     where
       go : (l : ℕ) → c .left .0 ≡ l → (i : Item) → itemAt 0 s (c .at) ≡ i → c .left .0 ≡ suc (after .left .0)
       go zero p i q =
-          let r : next.End ≡ next.Record e after = rw (eq-eqb (c .left .0) 0 p) at h in
+          let r : fileEnd ≡ recordHere e after = rw (eq-eqb (c .left .0) 0 p) at h in
           let z : _≡_ {A = ℕ} 0 1 = cc in
           let y : ⊥ = omega arith in
           absurd y
       go (suc l) p (Bad o) q =
           let m : c .left .0 ≡ 0 → ⊥ = λ w. omega arith in
-          let r : next.Forged ≡ next.Record e after = rw (ne-eqb (c .left .0) 0 m, q) at h in
+          let r : refusedWith swapFault ≡ recordHere e after = rw (ne-eqb (c .left .0) 0 m, q) at h in
           let z : _≡_ {A = ℕ} 0 1 = cc in
           let y : ⊥ = omega arith in
           absurd y
       go (suc l) p (Good g) q =
           let m : c .left .0 ≡ 0 → ⊥ = λ w. omega arith in
-          let r : next.Record g (record { at = g .from + g .length .0; left = inRecords (c .left .0 - 1) }) ≡ next.Record e after = rw (ne-eqb (c .left .0) 0 m, q) at h in
+          let r : recordHere g (record { at = g .from + g .length .0; left = inRecords (c .left .0 - 1) }) ≡ recordHere e after = rw (ne-eqb (c .left .0) 0 m, q) at h in
           let a : record { at = g .from + g .length .0; left = inRecords (c .left .0 - 1) } ≡ after = cc in
           let d : c .left .0 - 1 ≡ after .left .0 = ap (λ (k : Cursor). k .left .0) a in
           omega arith
 
   module _ (ads : List ℕ) where
-    pub first-end : nextAt s c ≡ next.End → next.End ≡ nextFor ads s c
+    pub first-end : nextAt s c ≡ fileEnd → fileEnd ≡ nextFor ads s c
     unfolding nextFor firstOf chosen
     first-end h = go (c .left .0)
       where
-        go : (k : ℕ) → next.End ≡ firstOf k ads s c
+        go : (k : ℕ) → fileEnd ≡ firstOf k ads s c
         go zero = refl
         go (suc k) = rw h
 
-    pub first-forged : nextAt s c ≡ next.Forged → next.Forged ≡ nextFor ads s c
+    pub first-none : nextAt s c ≡ refusedWith swapFault → refusedWith swapFault ≡ nextFor ads s c
     unfolding nextFor firstOf chosen nextAt
-    first-forged h = go (c .left .0) refl
+    first-none h = go (c .left .0) refl
       where
-        go : (k : ℕ) → c .left .0 ≡ k → next.Forged ≡ firstOf k ads s c
+        go : (k : ℕ) → c .left .0 ≡ k → refusedWith swapFault ≡ firstOf k ads s c
         go zero p =
-            let r : next.End ≡ next.Forged = rw (eq-eqb (c .left .0) 0 p) at h in
+            let r : fileEnd ≡ refusedWith swapFault = rw (eq-eqb (c .left .0) 0 p) at h in
             let z : _≡_ {A = ℕ} 0 1 = cc in
             let y : ⊥ = omega arith in
             absurd y
         go (suc k) p = rw h
 
-    module _ (e : Entry) (after : Cursor) (h : nextAt s c ≡ next.Record e after) where
+    module _ (e : Entry) (after : Cursor) (h : nextAt s c ≡ recordHere e after) where
       -- one more record is left than after it
       counted : firstOf (c .left .0) ads s c ≡ firstOf (suc (after .left .0)) ads s c
       counted = ap (λ (k : ℕ). firstOf k ads s c) (next-left e after h)
 
-      turn : firstOf (suc (after .left .0)) ads s c ≡ chosen ads s (firstOf (after .left .0) ads s) (next.Record e after)
+      turn : firstOf (suc (after .left .0)) ads s c ≡ chosen ads s (firstOf (after .left .0) ads s) (recordHere e after)
       unfolding firstOf
       turn = rw h
 
-      pub first-found : same (adsOf s e) ads ≡ true → next.Record e after ≡ nextFor ads s c
+      pub first-found : same (adsOf s e) ads ≡ true → recordHere e after ≡ nextFor ads s c
       unfolding nextFor chosen
       first-found t = sym (counted ∙ turn ∙ rw t)
 

@@ -6,38 +6,33 @@ use mathlib.Core.List.{List, [], _∷_}
 use Rattle.octets.specs.Part.{same}
 use Rattle.swap.specs.declared.item.Entry.{Entry}
 use Rattle.swap.specs.declared.cursor.Cursor.{Cursor}
-use Rattle.swap.specs.declared.cursor.Next.{Next}
-use Rattle.swap.specs.declared.cursor.Next.the-variants as next
-use Rattle.swap.specs.Record.{Record, kindOf}
-use Rattle.swap.specs.Cursor.{nextAt, adsOf, contentOf}
+use Rattle.swap.specs.Record.{Record}
+use Rattle.swap.specs.Cursor.{Standing, recordHere, fileEnd, refusedWith, nextAt, adsOf, Shows}
 
 -- what stands at a cursor, if it is the station's; else the answer from the cursor after it on
-unfoldable pub chosen : List ℕ → List ℕ → (Cursor → Next) → Next → Next
-chosen ads s later next.End = next.End
-chosen ads s later next.Forged = next.Forged
-chosen ads s later (next.Record entry after) = cond (same (adsOf s entry) ads) (next.Record entry after) (later after)
+unfoldable pub chosen : List ℕ → List ℕ → (Cursor → Standing) → Standing → Standing
+chosen ads s later fileEnd = fileEnd
+chosen ads s later (refusedWith n) = refusedWith n
+chosen ads s later (recordHere entry after) = cond (same (adsOf s entry) ads) (recordHere entry after) (later after)
 
 -- the first record of the station among the next so many
-unfoldable pub firstOf : ℕ → List ℕ → List ℕ → Cursor → Next
-firstOf zero ads s c = next.End
+unfoldable pub firstOf : ℕ → List ℕ → List ℕ → Cursor → Standing
+firstOf zero ads s c = fileEnd
 firstOf (suc k) ads s c = chosen ads s (firstOf k ads s) (nextAt s c)
 
--- the first record of the station from a cursor on: the end where none is left, Forged where the cursor is none of the file's
-unfoldable pub nextFor : List ℕ → List ℕ → Cursor → Next
+-- the first record of the station from a cursor on: the end where none is left, 18 where no record of the file stands on the way
+unfoldable pub nextFor : List ℕ → List ℕ → Cursor → Standing
 nextFor ads s c = firstOf (c .left .0) ads s c
 
 -- from a cursor on a file gives the station this record, and another cursor after it
 pub record GivesFor (ads s : List ℕ) (c : Cursor) (r : Record) (after : Cursor) : Type 0 where
   pub entry : Entry
-  pub here : nextFor ads s c ≡ next.Record entry after
-  pub its : adsOf s entry ≡ r .ads
-  pub tab : entry .tab ≡ r .tab
-  pub kind : entry .kind ≡ kindOf (r .kind)
-  pub content : contentOf s entry ≡ r .content
+  pub here : nextFor ads s c ≡ recordHere entry after
+  pub shows : Shows s entry r
 
 -- from a cursor on a file gives the station these records one after the other, and then the end
 pub data Gives (ads s : List ℕ) : Cursor → List Record → Type 0 where
-  ended : {c : Cursor} → nextFor ads s c ≡ next.End → Gives ads s c []
+  ended : {c : Cursor} → nextFor ads s c ≡ fileEnd → Gives ads s c []
   further : {c after : Cursor} {r : Record} {rs : List Record} → GivesFor ads s c r after → Gives ads s after rs → Gives ads s c (r ∷ rs)
 
 -- the records of a station, in their order

@@ -1,12 +1,13 @@
 // The records of one station in a swap file, one by one: what a tool programs a new card with (01, Swap file).
 ghost use mathlib.Core.Path.{_≡_};
+ghost use Rattle.swap.specs.Cursor.{answerOfNext};
 ghost use Rattle.swap_station.specs.Station.{nextFor};
 use swap::Cursor;
 use swap::Next;
 
 // The first record at or after the cursor whose ADS is the station's, with the cursor after it; the end where none is left.
 pub fn next_for(cursor: Cursor, file: &[u8], ads: [u8; 6]) -> Next
-    ensures { λ r. ⌜ r ≡ nextFor ads (now (file .entry)) cursor ⌝ }
+    ensures { λ r. ⌜ answerOfNext r ≡ nextFor ads (now (file .entry)) cursor ⌝ }
 {
     let mut here = cursor;
     loop {
@@ -15,8 +16,8 @@ pub fn next_for(cursor: Cursor, file: &[u8], ads: [u8; 6]) -> Next
             Next::End => {
                 return Next::End;
             }
-            Next::Forged => {
-                return Next::Forged;
+            Next::NoRecord => {
+                return Next::NoRecord;
             }
             Next::Record(entry, after) => {
                 let its = swap::cursor::ads(file, entry);

@@ -9,13 +9,14 @@ use lib.Seq.{drop-drop, drop-at}
 use mathlib.Core.Bool.{Bool, true, false}
 use lib.Dec.{ltb, lit<}
 use Rattle.label.specs.Fitting.{Answer, given, refused, inOctets}
+use Rattle.number.specs.Answers.{swapFault}
 use Rattle.number.specs.Groups.{encoded}
 use Rattle.number.proofs.Fronts.{front-encoded}
 use Rattle.swap.specs.declared.file.Records.{Records}
 use Rattle.swap.specs.Record.{keyOf, fileLimit, countLimit}
 use Rattle.swap.specs.Items.{judged, bad, good}
 use Rattle.octets.proofs.Below.{below-drop}
-use Rattle.swap.specs.Reading.{faulty, listed, readRecords, answered, swapFault, inRecords, verdictOf}
+use Rattle.swap.specs.Reading.{faulty, listed, readRecords, answered, inRecords, verdictOf}
 use Rattle.number.proofs.Forms.{front-form}
 use Rattle.swap.proofs.Verdicts.{verdict-many, verdict-none, verdict-records}
 use Rattle.swap.proofs.Tally.{tallied, tallied-none, tallied-more, records-bad, records-good}

@@ -1,38 +1,34 @@
 -- The loop that lays the records of an accepted file into the buffer: what is laid and the octets of the heads left make up the file.
 use Prim.Native.Nat.{ℕ, zero, suc, _+_, _-_, _*_, _/_, _^_, _≤_, _<_}
 use mathlib.Core.Path.{_≡_, refl, sym, ap, _∙_}
-use mathlib.Core.Bool.{Bool, true, false}
 use mathlib.Core.List.{List, [], _∷_, _++_, append-assoc, append-nil}
 use native.Mathlib.Omega.{arith}
 use lib.ListN.{length, getD, take, drop, length-append, length-drop}
-use lib.Seq.{take-length, drop-append-add, drop-drop, length-take-le}
-use lib.Dec.{ltb, lit<}
-use borrow.Author.Tests.{ltb-true, ltb-false}
+use lib.Seq.{take-length, drop-at, drop-append-add, drop-drop, length-take-le}
+use lib.Dec.{lit<}
 use Rattle.octets.specs.Splice.{spliced, fronted}
 use Rattle.octets.proofs.Splice.{spliced-front, spliced-next, spliced-after, length-fronted}
 use Rattle.octets.proofs.Below.{below-drop}
-use Rattle.label.specs.Fitting.{given, refused}
+use Rattle.label.specs.Fitting.{given}
 use Rattle.number.specs.Groups.{encoded, octetsAt}
+use Rattle.number.proofs.Forms.{own-form}
 use Rattle.swap.specs.declared.file.Records.{Records}
-use Rattle.swap.specs.Record.{Record, fileLimit, countLimit, keyOf}
+use Rattle.swap.specs.Record.{Record, countLimit, keyOf}
 use Rattle.swap.specs.Items.{good, judged}
-use Rattle.swap.specs.Reading.{Outcome, faulty, listed, preceded, readRecords, answered, verdictOf}
+use Rattle.swap.specs.Reading.{Outcome, faulty, listed, preceded, readRecords, verdictOf}
 use Rattle.swap.proofs.Tally.{records-bad, records-good}
-use Rattle.swap.proofs.Verdicts.{verdict-long}
+use Rattle.swap.proofs.Verdicts.{not-listed, accepted}
 use Rattle.swap_write.specs.declared.judge.Head.{Head}
 use Rattle.swap_write.specs.declared.judge.Head.the-variants.{Good, Bad}
 use Rattle.swap_write.specs.Heads.{headLength, frontOctets, bodyOf, fileOf}
 use Rattle.swap_write.specs.Heading.{headJudged}
 use Rattle.swap_write.proofs.Body.{asJudged, body-judged, body-next, length-next, head-good, whole, front-long}
-use Rattle.swap_write.proofs.Judged.{length-small, file-many, file-records}
+use Rattle.swap_write.proofs.Judged.{length-small}
 
 -- the data of so many heads is there, and nothing is left over
 unfoldable pub Fits : ℕ → List ℕ → List ℕ → Type 0
 Fits zero hs ds = (length hs ≡ 0) × (length ds ≡ 0)
 Fits (suc k) hs ds = (headLength hs ≤ length ds) × Fits k (drop 10 hs) (drop (headLength hs) ds)
-
-not-listed : (o : ℕ) (rs : List Record) → faulty o ≡ listed rs → ⊥
-not-listed o rs e = let z : _≡_ {A = ℕ} 0 1 = cc in omega arith
 
 listed-after : (r : Record) (out : Outcome) (rs : List Record) → preceded r out ≡ listed rs → (qs : List Record) × (out ≡ listed qs)
 unfolding preceded
@@ -70,28 +66,21 @@ no-elements : (s : List ℕ) → length s ≡ 0 → s ≡ []
 no-elements [] e = refl
 no-elements (o ∷ s) e = let z : ⊥ = omega arith in absurd z
 
--- what an accepted file says of its heads
-pub accepted-heads : (hs ds : List ℕ) (c : Records) → ((i : ℕ) → getD hs i 0 < 256) → verdictOf (fileOf hs ds) ≡ given c → (length hs / 10 ≤ countLimit) × Fits (length hs / 10) hs ds
-accepted-heads hs ds c b e = go (ltb fileLimit (length (fileOf hs ds))) refl (ltb countLimit (length hs / 10)) refl
-  where
-    clash : (n : ℕ) (o : _) → refused n o ≡ verdictOf (fileOf hs ds) → ⊥
-    clash n o q = let z : _≡_ {A = ℕ} 0 1 = cc in omega arith
+-- the records of an accepted file are read from the octets of its heads and data
+module _ (hs ds : List ℕ) (c : Records) (e : verdictOf (fileOf hs ds) ≡ given c) where
+  pub accepted-body : (length hs / 10 ≤ countLimit) × ((rs : List Record) × (readRecords (length hs / 10) 0 (length (encoded (length hs / 10))) (bodyOf (length hs / 10) hs ds) ≡ listed rs) × (length rs ≡ c .0))
+  unfolding fileOf
+  accepted-body =
+      let n : ℕ = length hs / 10 in
+      let a = accepted (fileOf hs ds) c e in
+      let f = own-form n (bodyOf n hs ds) (a .count) (a .width) (a .front) in
+      let d : drop (a .width) (fileOf hs ds) ≡ bodyOf n hs ds = drop-at (encoded n) (bodyOf n hs ds) (a .width) (f .1) in
+      (rw (f .0) (a .few), (a .records, rw (d, ← f .0, ← f .1) at (a .read), a .counted))
 
-    go : (s : Bool) → ltb fileLimit (length (fileOf hs ds)) ≡ s → (t : Bool) → ltb countLimit (length hs / 10) ≡ t → (length hs / 10 ≤ countLimit) × Fits (length hs / 10) hs ds
-    go true p t q = absurd (clash _ _ (verdict-long (fileOf hs ds) (ltb-true _ _ p)))
-    go false p true q = absurd (clash _ _ (file-many hs ds (ltb-false _ _ p) (ltb-true _ _ q)))
-    go false p false q = records (readRecords n 0 (length (encoded n)) (bodyOf n hs ds)) refl
-      where
-        n : ℕ
-        n = length hs / 10
-
-        few : n ≤ countLimit
-        few = ltb-false countLimit n q
-
-        records : (out : Outcome) → readRecords n 0 (length (encoded n)) (bodyOf n hs ds) ≡ out → (n ≤ countLimit) × Fits n hs ds
-        records (faulty o) r =
-            absurd (clash _ _ (sym (ap answered r) ∙ file-records hs ds (ltb-false _ _ p) few))
-        records (listed rs) r = (few, listed-fits n 0 (length (encoded n)) hs ds rs b (omega arith) r)
+  pub accepted-fits : ((i : ℕ) → getD hs i 0 < 256) → Fits (length hs / 10) hs ds
+  accepted-fits b =
+      let r = accepted-body .1 in
+      listed-fits (length hs / 10) 0 (length (encoded (length hs / 10))) hs ds (r .0) b (omega arith) (r .1)
 
 -- a number written is spliced in
 octets-spliced : (m : List ℕ) (at n : ℕ) → octetsAt m at n ≡ spliced m at (encoded n)
@@ -156,7 +145,7 @@ module _ (hs ds m : List ℕ) (h : length (fileOf hs ds) ≤ length m) where
           file = refl;
           heads = omega arith;
           data-left = omega arith;
-          fits = accepted-heads hs ds c o e .1;
+          fits = accepted-fits hs ds c e o;
           room = rw f (omega (arith, h, count-first, length-fronted (encoded n) m (omega (arith, h, count-first))));
           laid = f ∙ sym (rw f (fronted-over (encoded n) (encoded n) m (omega arith)));
         }

@@ -1,7 +1,7 @@
 pub mod Accepted
 pub mod Body
 mod Headed
-mod Judged
+pub mod Judged
 pub mod Laid
 mod Outcomes
 pub mod Records

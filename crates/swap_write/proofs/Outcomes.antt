@@ -10,12 +10,13 @@ use borrow.Author.Tests.{le-leb, lt-leb, ltb-true, ltb-false}
 use Rattle.label.specs.declared.Octets.{Octets}
 use Rattle.label.specs.Fitting.{given, refused, inOctets}
 use Rattle.octets.specs.Splice.{fronted}
+use Rattle.number.specs.Answers.{tooShort}
 use Rattle.swap.specs.declared.file.Records.{Records}
 use Rattle.swap.specs.Record.{fileLimit}
 use Rattle.swap.specs.Reading.{verdictOf}
 use Rattle.swap_write.specs.declared.size.Size.the-variants as size
 use Rattle.swap_write.specs.Heads.{fileOf}
-use Rattle.swap_write.specs.Writing.{writing, judgedWriting, laid, wrote, short, faulty, tooShort, sizeOf}
+use Rattle.swap_write.specs.Writing.{writing, judgedWriting, laid, wrote, short, faulty, sizeOf}
 
 module _ (hs ds b : List ℕ) where
   pub writing-refused : (n : ℕ) (o : Octets) → refused n o ≡ verdictOf (fileOf hs ds) → record { answer = faulty n o; buffer = b } ≡ writing hs ds b

@@ -10,19 +10,20 @@ use Rattle.label.specs.Fitting.{inOctets}
 use Rattle.octets.specs.Splice.{fronted}
 use Rattle.octets.proofs.Splice.{take-fronted}
 use Rattle.number.specs.Groups.{encoded}
-use Rattle.swap.specs.Record.{Record, Sound, Each}
+use Rattle.swap.specs.Record.{Record, OfOctets, Each}
 use Rattle.swap.specs.Encoding.{recordOctets, recordsOctets, encode, Within}
 use Rattle.swap.specs.Reading.{readFile, listed, verdictOf, inRecords}
+use Rattle.swap.proofs.Encoded.{all-octets}
 use Rattle.swap.proofs.RoundTrip.{read-encode, encode-read, encoding-accepted}
 use Rattle.swap_write.specs.Heads.{headOf, headsOf, contentsOf, headLength, frontOctets, bodyOf, fileOf}
 use Rattle.swap_write.specs.Writing.{writing, wrote}
 use Rattle.swap_write.proofs.Outcomes.{writing-whole}
 
 -- the head of a record, with others behind it
-module _ (r : Record) (hs : List ℕ) (sound : Sound r) where
+module _ (r : Record) (hs : List ℕ) (six : length (r .ads) ≡ 6) where
   from-tab : drop 6 (headOf r ++ hs) ≡ r .tab ∷ r .kind ∷ length (r .content) % 256 ∷ length (r .content) / 256 ∷ hs
   unfolding headOf
-  from-tab = rw append-assoc (drop-at (r .ads) _ 6 (sound .address))
+  from-tab = rw append-assoc (drop-at (r .ads) _ 6 (six))
 
   pub stated : headLength (headOf r ++ hs) ≡ length (r .content)
   unfolding headLength
@@ -30,19 +31,19 @@ module _ (r : Record) (hs : List ℕ) (sound : Sound r) where
 
   pub ten : length (headOf r) ≡ 10
   unfolding headOf
-  ten = simp length-append (omega (arith, sound .address))
+  ten = simp length-append (omega (arith, six))
 
   front : frontOctets (headOf r ++ hs) ≡ r .ads ++ r .tab ∷ r .kind ∷ encoded (length (r .content))
   unfolding frontOctets headOf
   front =
       let p : List ℕ = r .ads ++ r .tab ∷ r .kind ∷ [] in
       let q : List ℕ = length (r .content) % 256 ∷ length (r .content) / 256 ∷ hs in
-      let l : length p ≡ 8 = simp length-append (omega (arith, sound .address)) in
+      let l : length p ≡ 8 = simp length-append (omega (arith, six)) in
       let e : headOf r ++ hs ≡ p ++ q = append-assoc (r .ads) _ hs ∙ sym (append-assoc (r .ads) (r .tab ∷ r .kind ∷ []) q) in
       rw (stated, e, take-at p q 8 l) (append-assoc (r .ads) (r .tab ∷ r .kind ∷ []) (encoded (length (r .content))))
 
--- the heads and the data of sound records are their octets
-body-records : {rs : List Record} → Each Sound rs → bodyOf (length rs) (headsOf rs) (contentsOf rs) ≡ recordsOctets rs
+-- the heads and the data of records are their octets, whatever rules they break
+body-records : {rs : List Record} → Each OfOctets rs → bodyOf (length rs) (headsOf rs) (contentsOf rs) ≡ recordsOctets rs
 unfolding bodyOf headsOf contentsOf recordsOctets recordOctets
 body-records Each.none = refl
 body-records (Each.more {r = r} {rs = rs} p s) =
@@ -51,23 +52,23 @@ body-records (Each.more {r = r} {rs = rs} p s) =
     let c : List ℕ = contentsOf rs in
     let l : n ≤ length (r .content ++ c) = rw length-append (omega arith) in
     rw (
-      stated r h p,
+      stated r h (p .address),
       le-leb n (length (r .content ++ c)) l,
-      front r h p,
+      front r h (p .address),
       take-at (r .content) c n refl,
-      drop-at (headOf r) h 10 (ten r h p),
+      drop-at (headOf r) h 10 (ten r h (p .address)),
       drop-at (r .content) c n refl,
       body-records s,
     )
     (sym (append-assoc (r .ads ++ r .tab ∷ r .kind ∷ encoded n) (r .content) (recordsOctets rs)))
 
-pub heads-long : {rs : List Record} → Each Sound rs → length (headsOf rs) ≡ 10 * length rs
+pub heads-long : {rs : List Record} → Each OfOctets rs → length (headsOf rs) ≡ 10 * length rs
 unfolding headsOf
 heads-long Each.none = refl
-heads-long (Each.more {r = r} {rs = rs} p s) = rw length-append (omega (arith, ten r (headsOf rs) p, heads-long s))
+heads-long (Each.more {r = r} {rs = rs} p s) = rw length-append (omega (arith, ten r (headsOf rs) (p .address), heads-long s))
 
--- the would-be file of sound records is their encoding
-pub file-encode : (rs : List Record) → Each Sound rs → fileOf (headsOf rs) (contentsOf rs) ≡ encode rs
+-- the would-be file of records is their encoding
+pub file-encode : (rs : List Record) → Each OfOctets rs → fileOf (headsOf rs) (contentsOf rs) ≡ encode rs
 unfolding fileOf encode
 file-encode rs s =
     let n : length (headsOf rs) / 10 ≡ length rs = omega (arith, heads-long s) in
@@ -76,7 +77,7 @@ file-encode rs s =
 -- records within all rules are written whole where the buffer has room
 pub write-whole : (rs : List Record) (b : List ℕ) → Within rs → length (encode rs) ≤ length b → writing (headsOf rs) (contentsOf rs) b ≡ record { answer = wrote (inOctets (length (encode rs))); buffer = fronted (encode rs) b }
 write-whole rs b h k =
-    let e : fileOf (headsOf rs) (contentsOf rs) ≡ encode rs = file-encode rs (h .sound) in
+    let e : fileOf (headsOf rs) (contentsOf rs) ≡ encode rs = file-encode rs (all-octets (h .sound)) in
     sym (writing-whole (headsOf rs) (contentsOf rs) b (inRecords (length rs)) (sym (ap verdictOf e ∙ encoding-accepted rs h)) (rw e k)) ∙ rw e
 
 -- records read from an accepted file and written give the same octets

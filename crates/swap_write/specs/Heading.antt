@@ -1,4 +1,4 @@
--- What a head with its data makes of a record, item by item.
+-- What a head with its data makes of a record, item by item, each judged as in a file (01, Swap file).
 use Prim.Native.Nat.{ℕ, _+_}
 use mathlib.Core.Bool.{cond}
 use mathlib.Core.List.{List}

@@ -1,4 +1,4 @@
--- Records as the writer takes them: heads of ten octets, and their data one after the other. A head is ADS 6, TAB, kind, and the length in two octets, the low one first.
+-- Records as the writer takes them (docs/DECISIONS.md, Swap file): heads of ten octets, and their data one after the other. A head is ADS 6, TAB, kind, and the length in two octets, the low one first.
 use Prim.Native.Nat.{ℕ, zero, suc, _+_, _*_, _/_, _%_}
 use mathlib.Core.Bool.{cond}
 use mathlib.Core.List.{List, [], _∷_, _++_}

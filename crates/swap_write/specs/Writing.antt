@@ -7,18 +7,15 @@ use lib.ListN.{length}
 use Rattle.label.specs.declared.Octets.{Octets}
 use Rattle.label.specs.Fitting.{Answer, given, refused, inOctets}
 use Rattle.octets.specs.Splice.{fronted}
+use Rattle.number.specs.Answers.{swapFault, tooShort}
 use Rattle.swap.specs.declared.file.Records.{Records}
 use Rattle.swap.specs.Record.{fileLimit}
-use Rattle.swap.specs.Reading.{verdictOf, swapFault}
+use Rattle.swap.specs.Reading.{verdictOf}
 use Rattle.swap_write.specs.declared.Written.{Written}
 use Rattle.swap_write.specs.declared.Written.the-variants.{Whole, Fault, Short}
 use Rattle.swap_write.specs.declared.size.Size.{Size}
 use Rattle.swap_write.specs.declared.size.Size.the-variants as size
 use Rattle.swap_write.specs.Heads.{fileOf}
-
--- 01, Numbers handed back: a buffer too short for the file
-abbrev pub tooShort : ℕ
-tooShort = 17
 
 -- the length of the file written, 17, or 18 with an offset
 pub data Writing : Type 0 where
@@ -26,6 +23,7 @@ pub data Writing : Type 0 where
   short : ℕ → Writing
   faulty : ℕ → Octets → Writing
 
+-- the number and values of each case
 abbrev pub answerOfWritten : Written → Writing
 answerOfWritten (Whole length) = wrote length
 answerOfWritten (Fault offset) = faulty swapFault offset
@@ -43,6 +41,7 @@ laid file buffer =
     (record { answer = wrote (inOctets (length file)); buffer = fronted file buffer })
     (record { answer = short tooShort; buffer = buffer })
 
+-- 01, Swap file: 18 and the reader's offset, "then a buffer too short for the file with 17; both leave the buffer"
 unfoldable pub judgedWriting : Answer Records → List ℕ → List ℕ → Outcome
 judgedWriting (given count) file buffer = laid file buffer
 judgedWriting (refused n offset) file buffer = record { answer = faulty n offset; buffer = buffer }

@@ -1,10 +1,10 @@
 // The reader's verdict on the would-be file, from the heads and the data alone.
 ghost use mathlib.Core.Path.{_≡_};
 ghost use Prim.Native.Nat.{_+_, _*_, _≤_, _<_};
-ghost use lib.ListN.{length, take};
+ghost use lib.ListN.{length};
 ghost use Rattle.swap.specs.Reading.{answerOfVerdict, verdictOf, answered, readRecords};
 ghost use Rattle.number.specs.Groups.{encoded};
-ghost use Rattle.swap_write.specs.Heads.{headLength, bodyOf, fileOf};
+ghost use Rattle.swap_write.specs.Heads.{bodyOf, fileOf};
 ghost use Rattle.swap_write.specs.Heading.{headJudged, dataJudged};
 use crate::size::head_length;
 use crate::size::width_of;

@@ -1,6 +1,5 @@
 // The length of the would-be file.
 ghost use mathlib.Core.Path.{_≡_};
-ghost use Prim.Native.Nat.{_≤_};
 ghost use lib.ListN.{length};
 ghost use Rattle.number.specs.Groups.{encoded};
 ghost use Rattle.swap_write.specs.Heads.{headLength, fileOf};
@@ -19,12 +18,11 @@ fn wide(octet: u8) -> usize
     octet as usize
 }
 
-// The length that the head at the front states.
-pub(crate) fn head_length(heads: &[u8]) -> usize
-    requires { ⌜ 10 ≤ length (now heads) ⌝ }
+// The length that the head at the front states; octets that are not there count as 0.
+pub fn head_length(heads: &[u8]) -> usize
     ensures { λ r. ⌜ r ≡ headLength (now (heads .entry)) ⌝ }
 {
-    wide(heads[8]) + 256 * wide(heads[9])
+    wide(octets::octet(heads, 8)) + 256 * wide(octets::octet(heads, 9))
 }
 
 // How many octets a number takes: five from 2^28 on, whatever it is.

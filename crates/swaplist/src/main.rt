@@ -1,13 +1,14 @@
 // Reads a swap file from standard input and lists its records, or says at which offset it is refused (01, Swap file).
-use label::Octets;
 use label::Text;
 use libc::STDIN_FILENO;
 use libc::STDOUT_FILENO;
-use swap::Cursor;
 use swap::Entry;
 use swap::Kind;
 use swap::Next;
 use swap::Verdict;
+use text::put_number;
+use text::put_octets;
+use text::put_words;
 
 fn main() {
     // One octet more than the longest file, so that a longer one is seen to be too long.
@@ -19,18 +20,20 @@ fn main() {
 fn list(file: &[u8]) {
     let verdict = swap::judge(file);
     match verdict {
-        Verdict::Fault(offset) => {
-            io::write_all(STDOUT_FILENO, b"refused 18 at ");
-            io::print_decimal(STDOUT_FILENO, offset.0 as u64);
-            io::write_all(STDOUT_FILENO, b"\n");
-        }
+        Verdict::Fault(offset) => print_number(b"refused 18 at ", offset.0),
         Verdict::Accepted(records) => {
-            io::write_all(STDOUT_FILENO, b"records ");
-            io::print_decimal(STDOUT_FILENO, records.0 as u64);
-            io::write_all(STDOUT_FILENO, b"\n");
+            print_number(b"records ", records.0);
             list_records(file, records.0);
         }
     }
+}
+
+// A line that is words and a number.
+fn print_number(words: &[u8], n: usize) {
+    let mut line = [0u8; 64];
+    let next = put_number(&mut line, 0, words, n as u64);
+    let end = put_words(&mut line, next, b"\n");
+    io::write_all(STDOUT_FILENO, octets::part(&line, 0, end));
 }
 
 // A line for each of so many records.
@@ -50,50 +53,30 @@ fn list_records(file: &[u8], count: usize) {
 
 fn list_record(file: &[u8], entry: Entry) {
     let ads = swap::cursor::ads(file, entry);
-    let tab = [entry.tab];
-    print_octets(&ads);
-    io::write_all(STDOUT_FILENO, b" ");
-    print_octets(&tab);
+    let mut line = [0u8; 128];
+    let tab_at = put_octets(&mut line, 0, b"", &ads);
+    let kind_at = put_octets(&mut line, tab_at, b" ", &[entry.tab]);
+    let next = put_kind(&mut line, kind_at, file, entry);
+    let end = put_words(&mut line, next, b"\n");
+    io::write_all(STDOUT_FILENO, octets::part(&line, 0, end));
+}
+
+// A record's kind and counts.
+fn put_kind(line: &mut [u8], at: usize, file: &[u8], entry: Entry) -> usize {
     let kind = entry.kind;
+    let content = swap::cursor::content(file, entry);
     match kind {
-        Kind::Raw => {
-            io::write_all(STDOUT_FILENO, b" raw");
-            print_octet_count(entry.length);
-        }
-        Kind::Label => {
-            io::write_all(STDOUT_FILENO, b" label");
-            print_octet_count(entry.length);
-            print_character_count(swap::cursor::content(file, entry));
-        }
+        Kind::Raw => put_number(line, at, b" raw octets ", content.len() as u64),
+        Kind::Label => put_label(line, at, content),
     }
-    io::write_all(STDOUT_FILENO, b"\n");
 }
 
-fn print_octet_count(length: Octets) {
-    io::write_all(STDOUT_FILENO, b" octets ");
-    io::print_decimal(STDOUT_FILENO, length.0 as u64);
-}
-
-fn print_character_count(content: &[u8]) {
+// A label's two counts.
+fn put_label(line: &mut [u8], at: usize, content: &[u8]) -> usize {
+    let next = put_number(line, at, b" label octets ", content.len() as u64);
     let measured = label::measure(content);
     let Text::WellFormed(characters) = measured else {
-        return;
+        return next;
     };
-    io::write_all(STDOUT_FILENO, b" characters ");
-    io::print_decimal(STDOUT_FILENO, characters.0 as u64);
-}
-
-// Two digits for each octet.
-fn print_octets(octets: &[u8]) {
-    let mut i = 0;
-    while i < octets.len() {
-        let octet = octets[i];
-        let digits = [digit(octet / 16), digit(octet % 16)];
-        io::write_all(STDOUT_FILENO, &digits);
-        i += 1;
-    }
-}
-
-fn digit(n: u8) -> u8 {
-    if n < 10 { 48 + n } else { 55 + n % 16 }
+    put_number(line, next, b" characters ", characters.0 as u64)
 }

@@ -1,6 +1,6 @@
 -- What each call comes to. The other laws of this crate go by these few cases.
 use Prim.Native.Nat.{ℕ}
-use mathlib.Core.Path.{_≡_, refl}
+use mathlib.Core.Path.{_≡_, refl, ap}
 use mathlib.Core.Bool.{Bool, true, false, cond, _&&_}
 use mathlib.Core.List.{List}
 use lib.Dec.{eqb, leb}
@@ -24,6 +24,10 @@ use Rattle.tool.specs.Events.{afterStep, heardAs, heardStep, hearing, af
 use Rattle.octets.proofs.Impossible.{impossible}
 use Rattle.tool.proofs.Admission.{Admits, admits}
 use Rattle.tool.proofs.Endings.{Ends, frame-ends}
+
+-- equal responses have equal tools
+pub tool-of : {r s : Response} → r ≡ s → r .tool ≡ s .tool
+tool-of e = ap (λ (s : Response). s .tool) e
 
 -- refusals that leave everything: 6, 7, 16 and 17, and 12 of a tool that is not sound
 pub data Stays (t : Tool) : Refusal → Type 0 where

@@ -1,5 +1,6 @@
 pub mod Lengths
 pub mod Sound
+pub mod Numbers
 mod Gives
 mod Admission
 mod Lent
@@ -8,7 +9,7 @@ mod Receiving
 pub mod Endings
 pub mod Courses
 pub mod Refusals
-pub mod Kept
+pub mod StaysSound
 pub mod Authentication
 pub mod Waking
 pub mod Running

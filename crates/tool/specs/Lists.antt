@@ -21,31 +21,31 @@ abbrev pub entry : Request → List ℕ → Bool → Bool → Entry
 entry q ads woken ended = record { request = q; station = ads; woken = woken; succeeded = ended }
 
 -- a request that was not refused is entered with the wake-up it was told; one that is done once sent has ended without a number
-unfoldable pub launched : Answer → Request → List ℕ → Response → List Entry → List Entry
-launched Nothing q ads r past = past
-launched Sent q ads r past = entry q ads (isAgn (r .wake)) false ∷ past
-launched Done q ads r past = entry q ads (isAgn (r .wake)) true ∷ past
-launched (Refused x) q ads r past = past
+unfoldable pub requestNoted : Answer → Request → List ℕ → Response → List Entry → List Entry
+requestNoted Nothing q ads r past = past
+requestNoted Sent q ads r past = entry q ads (isAgn (r .wake)) false ∷ past
+requestNoted Done q ads r past = entry q ads (isAgn (r .wake)) true ∷ past
+requestNoted (Refused x) q ads r past = past
 
 -- an octet that ends the running request, the latest one, without a number
-unfoldable pub closed : Answer → List Entry → List Entry
-closed Nothing past = past
-closed Sent past = past
-closed Done [] = []
-closed Done (e ∷ past) = done e ∷ past
-closed (Refused x) past = past
+unfoldable pub endNoted : Answer → List Entry → List Entry
+endNoted Nothing past = past
+endNoted Sent past = past
+endNoted Done [] = []
+endNoted Done (e ∷ past) = done e ∷ past
+endNoted (Refused x) past = past
 
 unfoldable pub noted : Call → Response → List Entry → List Entry
-noted (Read ads adp tab room) r past = launched (r .answer) Enq ads r past
-noted (Transfer ads adp tab d room) r past = launched (r .answer) Trf ads r past
-noted (Program ads adp tab d key na1 room) r past = launched (r .answer) Rec ads r past
-noted (Broadcast ads adp tab d room) r past = launched (r .answer) Trb ads r past
-noted (Initialise ads adp room) r past = launched (r .answer) Ib ads r past
-noted (Octet o room) r past = closed (r .answer) past
+noted (Read ads adp tab room) r past = requestNoted (r .answer) Enq ads r past
+noted (Transfer ads adp tab d room) r past = requestNoted (r .answer) Trf ads r past
+noted (Program ads adp tab d key na1 room) r past = requestNoted (r .answer) Rec ads r past
+noted (Broadcast ads adp tab d room) r past = requestNoted (r .answer) Trb ads r past
+noted (Initialise ads adp room) r past = requestNoted (r .answer) Ib ads r past
+noted (Octet o room) r past = endNoted (r .answer) past
 noted Gap r past = past
 noted SessionEnd r past = past
 
 -- the requests and endings of calls after those of the past, the latest first
-unfoldable pub told : Tool → List Call → List Entry → List Entry
-told t [] past = past
-told t (x ∷ xs) past = told (after t x .tool) xs (noted x (after t x) past)
+unfoldable pub entriesAfter : Tool → List Call → List Entry → List Entry
+entriesAfter t [] past = past
+entriesAfter t (x ∷ xs) past = entriesAfter (after t x .tool) xs (noted x (after t x) past)

@@ -4,7 +4,6 @@ use mathlib.Core.Path.{_≡_}
 use mathlib.Core.List.{List, []}
 use lib.ListN.{length, replicate}
 use Rattle.octets.specs.Splice.{fronted}
-use Rattle.label.specs.declared.Octets.{Octets}
 use Rattle.receiver.specs.declared.Receiver.{Receiver}
 use Rattle.receiver.specs.Receiver as receiver
 use Rattle.wake.specs.declared.Wake.{Wake}
@@ -91,11 +90,6 @@ contentsOf d = record { octets = fronted d (replicate 116 0); length = record { 
 abbrev pub heard : Response → Heard
 heard r =
     record { tool = r .tool; answer = r .answer; frame = record { 0 = length (r .frame) }; contents = contentsOf (r .contents) }
-
--- what sending a frame leaves in the lent buffer, and its length
-pub record Sends (frame before after : List ℕ) (sent : Octets) : Type 0 where
-  pub octets : sent ≡ record { 0 = length frame }
-  pub buffer : after ≡ fronted frame before
 
 -- What a call with a lent buffer gives and leaves: the response in its shape, and the response's frame over the front of the buffer.
 pub record Gives {A : Type 0} (shape : Response → A) (r : Response) (before after : List ℕ) (given : A) : Type 0 where

@@ -6,7 +6,7 @@ use mathlib.Core.List.{List, []}
 use lib.Dec.{eqb, leb}
 use lib.ListN.{length, replicate}
 use Rattle.octets.specs.Splice.{fronted}
-use Rattle.octets.specs.Part.{same}
+use Rattle.frame.specs.Addresses.{broadcast}
 use Rattle.frame.specs.declared.codes.Command.{Command}
 use Rattle.frame.specs.declared.codes.Command.the-variants as command
 use Rattle.frame.specs.declared.content.Fields.{Fields}
@@ -27,10 +27,6 @@ use Rattle.tool.specs.declared.requests.Admission.the-variants.{Admitted
 use Rattle.tool.specs.Numbers.{refusalNumber, refused}
 use Rattle.tool.specs.Parts.{withWaking, Response, responding}
 use Rattle.tool.specs.Soundness.{sound}
-
--- 004 4.4.8: "There is only one broadcast physical address which is the general broadcast ADG coded as 000000000000"
-unfoldable pub broadcast : List ℕ → Bool
-broadcast ads = same ads (replicate 6 0)
 
 -- read, transfer, program, broadcast and initialise send these
 abbrev pub commandOf : Request → Command
@@ -67,8 +63,8 @@ idle (Programming tab n) = false
 idle Authenticating = false
 
 -- the request is refused with this number
-abbrev pub barred : (x : Refusal) (n : ℕ) → refusalNumber x ≡ n → Admission
-barred x n e = Refused x
+abbrev pub refusedWith : (x : Refusal) (n : ℕ) → refusalNumber x ≡ n → Admission
+refusedWith x n e = Refused x
 
 -- "so 17, 12, 16, 6, 7": an address not of 6 octets or a frame buffer under 128 (17), a broken rule (12), a request that runs (16), an address of
 -- the wrong sort (6), too much DATA (7)
@@ -78,11 +74,11 @@ admission t r ads d room =
     (cond (sound t)
     (cond (idle (t .phase))
     (cond (addressable r ads)
-    (cond (leb (length d) (limitOf r)) Admitted (barred TooLong 7 refl))
-    (barred WrongAddress 6 refl))
-    (barred Busy 16 refl))
-    (barred BrokenRule 12 refl))
-    (barred WrongLength 17 refl)
+    (cond (leb (length d) (limitOf r)) Admitted (refusedWith TooLong 7 refl))
+    (refusedWith WrongAddress 6 refl))
+    (refusedWith Busy 16 refl))
+    (refusedWith BrokenRule 12 refl))
+    (refusedWith WrongLength 17 refl)
 
 -- a refused request leaves the tool and the buffer
 unfoldable pub admitted : Admission → Tool → Response → Response

@@ -26,7 +26,7 @@ pub shown-value : (n value before2 : ℕ) → n ≡ 0 → value ≡ shown n valu
 unfolding shown
 shown-value n value before2 e = rw (eq-eqb n 0 e)
 
-over-not : (n : ℕ) (d before2 : List ℕ) → (n ≡ 0 → ⊥) → before2 ≡ shownOver n d before2
+pub over-not : (n : ℕ) (d before2 : List ℕ) → (n ≡ 0 → ⊥) → before2 ≡ shownOver n d before2
 unfolding shownOver
 over-not n d before2 h = rw (ne-eqb n 0 h)
 

@@ -7,55 +7,27 @@ use native.Mathlib.Omega.{arith}
 use lib.Dec.{eqb}
 use lib.ListN.{length}
 use borrow.Author.Tests.{eqb-true}
-use Rattle.frame.specs.declared.checks.Fault.{Fault}
-use Rattle.frame.specs.declared.checks.Fault.the-variants.{OutOfRange, Crc, Cut, Unknown, Length}
 use Rattle.tool.specs.declared.Tool.{Tool}
-use Rattle.tool.specs.declared.Refusal.the-variants.{BadFrame, WrongAddress, TooLong, BrokenRule, WrongCipher, WrongEcho, SessionEnded, Busy, WrongLength, Unexpected, Rejected}
-use Rattle.tool.specs.declared.Answer.{Answer}
-use Rattle.tool.specs.declared.Answer.the-variants.{Nothing, Sent, Done, Refused}
-use Rattle.tool.specs.Numbers.{refusalNumber, numberOf}
+use Rattle.tool.specs.declared.Refusal.the-variants.{WrongLength}
+use Rattle.tool.specs.Numbers.{numberOf}
 use Rattle.tool.specs.Parts.{fresh, Response}
 use Rattle.tool.specs.Events.{Call, after}
 use Rattle.tool.specs.Leaving.{leftBy}
 use Rattle.tool.specs.Lists.{leftAfter}
+use Rattle.tool.proofs.Numbers.{by-number}
 use Rattle.tool.proofs.Refusals.{refusal-leaves}
-use Rattle.tool.proofs.Kept.{never-12}
+use Rattle.tool.proofs.StaysSound.{never-12}
 use Rattle.tool_memory.specs.Layout.{decoded, encoded, freshMemory}
 use Rattle.tool_memory.proofs.Fresh.{fresh-decoded}
 use Rattle.tool_memory.proofs.RoundTrip.{encoded-length, decoded-encoded}
 use Rattle.tool_memory.proofs.Storable.{Storable, fresh-storable, after-storable}
 use Rattle.tool_exports.specs.Outcomes.{stored}
 use Rattle.tool_exports.specs.Lists.{left, leftIn}
-use Rattle.octets.proofs.Impossible.{impossible}
-
-fault-not-17 : {X : Type 0} (f : Fault) → refusalNumber (BadFrame f) ≡ 17 → X
-fault-not-17 OutOfRange e = impossible (omega arith)
-fault-not-17 Crc e = impossible (omega arith)
-fault-not-17 Cut e = impossible (omega arith)
-fault-not-17 Unknown e = impossible (omega arith)
-fault-not-17 Length e = impossible (omega arith)
-
--- the one answer with the number 17
-number-17 : (a : Answer) → numberOf a ≡ 17 → a ≡ Refused WrongLength
-number-17 Nothing e = impossible (omega arith)
-number-17 Sent e = impossible (omega arith)
-number-17 Done e = impossible (omega arith)
-number-17 (Refused (BadFrame f)) e = fault-not-17 f e
-number-17 (Refused WrongAddress) e = impossible (omega arith)
-number-17 (Refused TooLong) e = impossible (omega arith)
-number-17 (Refused BrokenRule) e = impossible (omega arith)
-number-17 (Refused WrongCipher) e = impossible (omega arith)
-number-17 (Refused WrongEcho) e = impossible (omega arith)
-number-17 (Refused SessionEnded) e = impossible (omega arith)
-number-17 (Refused Busy) e = impossible (omega arith)
-number-17 (Refused WrongLength) e = refl
-number-17 (Refused Unexpected) e = impossible (omega arith)
-number-17 (Refused Rejected) e = impossible (omega arith)
 
 -- 17 leaves the tool as it was
 tool-17 : (t : Tool) (call : Call) → numberOf (after t call .answer) ≡ 17 → after t call .tool ≡ t
 unfolding leftBy
-tool-17 t call e = ap (λ (r : Response). r .tool) (refusal-leaves t call WrongLength (number-17 (after t call .answer) e))
+tool-17 t call e = ap (λ (r : Response). r .tool) (refusal-leaves t call WrongLength (by-number (after t call .answer) WrongLength e))
 
 -- the memory m is that of the tool t
 pub record Holds (m : List ℕ) (t : Tool) : Type 0 where
@@ -77,7 +49,7 @@ stored-holds m t u n h s a b = go (eqb n 12) (eqb n 17) refl refl
     go false false p q =
         record {
           size = encoded-length u m (h .size) (s .shaped);
-          tool = decoded-encoded u m (h .size) (s .shaped) (omega (arith, s .kept .sound .sent)) (s .narrow);
+          tool = decoded-encoded u m (h .size) (s .shaped) (omega (arith, s .whole .sound .sent)) (s .narrow);
           storable = s;
         }
 
@@ -86,7 +58,7 @@ pub left-holds : (m : List ℕ) (t : Tool) (call : Call) → Holds m t → Holds
 unfolding left
 left-holds m t call h =
     rw (h .tool)
-    (stored-holds m t (after t call .tool) (numberOf (after t call .answer)) h (after-storable t call (h .storable)) (never-12 t call (h .storable .kept)) (tool-17 t call))
+    (stored-holds m t (after t call .tool) (numberOf (after t call .answer)) h (after-storable t call (h .storable)) (never-12 t call (h .storable .whole)) (tool-17 t call))
 
 pub leftIn-holds : (h : List Call) (m : List ℕ) (t : Tool) → Holds m t → Holds (leftIn m h) (leftAfter t h)
 unfolding leftIn leftAfter
@@ -102,4 +74,4 @@ memory-holds h = leftIn-holds h freshMemory fresh fresh-held .tool
 pub memory-never-12 : (h : List Call) (call : Call) → numberOf (after (decoded (leftIn freshMemory h)) call .answer) ≡ 12 → ⊥
 memory-never-12 h call e =
     let k = leftIn-holds h freshMemory fresh fresh-held in
-    never-12 (leftAfter fresh h) call (k .storable .kept) (rw (k .tool) at e)
+    never-12 (leftAfter fresh h) call (k .storable .whole) (rw (k .tool) at e)

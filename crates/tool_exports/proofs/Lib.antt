@@ -2,3 +2,4 @@ mod Given
 pub mod Left
 pub mod History
 pub mod Unchanged
+pub mod Leaving

@@ -1,3 +1,4 @@
 pub mod Outcomes
 pub mod Settling
 pub mod Lists
+pub mod Leaving

@@ -91,15 +91,16 @@ pub record EventLent : Type 0 where
   pub number : ℕ
   pub memory : List ℕ
 
+-- a gap or a session end: the answer's number, and the memory of the tool beside it
 abbrev pub concluded : Answered → List ℕ → EventLent
 concluded a m = record { number = numberOf (a .answer); memory = stored (numberOf (a .answer)) (a .tool) m }
 
--- A call on the tool that a memory holds, whatever the memory's octets are.
-unfoldable pub requestOutcome : Call → RequestLent → RequestLent
-requestOutcome call before = requestShown (after (decoded (before .memory)) call) before
+-- A call on the tool that a memory holds, whatever the memory's octets are; of the frame buffer only the length bears on what the tool does.
+unfoldable pub requestOutcome : (ℕ → Call) → RequestLent → RequestLent
+requestOutcome call before = requestShown (after (decoded (before .memory)) (call (length (before .frame)))) before
 
-unfoldable pub octetOutcome : Call → OctetLent → OctetLent
-octetOutcome call before = octetShown (after (decoded (before .memory)) call) before
+unfoldable pub octetOutcome : (ℕ → Call) → OctetLent → OctetLent
+octetOutcome call before = octetShown (after (decoded (before .memory)) (call (length (before .frame)))) before
 
 unfoldable pub eventOutcome : Call → List ℕ → EventLent
 eventOutcome call m = concluded (answered (after (decoded m) call)) m

@@ -1,4 +1,4 @@
--- What settling a request or an octet leaves besides the frame, for a value q that the tool gave: part by part.
+-- For the two private functions `settle` alone: what each leaves besides the frame, part by part, for the value q that the tool gave. No promise of an exported call uses these.
 use Prim.Native.Nat.{ℕ}
 use mathlib.Core.Path.{_≡_}
 use mathlib.Core.List.{List}
@@ -8,6 +8,7 @@ use Rattle.tool.specs.declared.Heard.{Heard}
 use Rattle.tool.specs.Numbers.{numberOf}
 use Rattle.tool_exports.specs.Outcomes.{stored, shown, shownOver, wakeMark, endedMark}
 
+-- a request
 pub record Settled (q : Requested) (number : ℕ) (m m′ : List ℕ) (l l′ w w′ e e′ : ℕ) : Type 0 where
   pub answered : number ≡ numberOf (q .answer)
   pub memory : m′ ≡ stored number (q .tool) m
@@ -15,6 +16,7 @@ pub record Settled (q : Requested) (number : ℕ) (m m′ : List ℕ) (l l′ w 
   pub wake : w′ ≡ shown number (wakeMark (q .wake)) w
   pub ended : e′ ≡ shown number (endedMark (q .answer)) e
 
+-- an octet
 pub record SettledOctet (q : Heard) (number : ℕ) (m m′ : List ℕ) (l l′ e e′ : ℕ) (d d′ : List ℕ) (k k′ : ℕ) : Type 0 where
   pub answered : number ≡ numberOf (q .answer)
   pub memory : m′ ≡ stored number (q .tool) m

@@ -1,9 +1,8 @@
 // A fresh tool, and the events: an octet, a gap and a session end.
 ghost use mathlib.Core.Path.{_≡_};
-ghost use lib.ListN.{length};
 ghost use Rattle.tool.specs.Events.{Octet, Gap, SessionEnd};
 ghost use Rattle.tool_memory.specs.Layout.{freshMemory};
-ghost use Rattle.tool_exports.specs.Outcomes.{OctetLent, octetOutcome, EventLent, concluded, eventOutcome};
+ghost use Rattle.tool_exports.specs.Outcomes.{octetOutcome, concluded, eventOutcome};
 ghost use Rattle.tool_exports.specs.Settling.{SettledOctet};
 use crate::settling::ended_mark;
 use crate::settling::store;
@@ -22,12 +21,12 @@ pub extern "C" fn propolisk_tool_new(memory: &mut [u8; 263])
 fn settle(
     memory: &mut [u8; 263],
     heard: Heard,
-    octets: &mut usize,
+    length: &mut usize,
     ended: &mut u8,
     data: &mut [u8; 116],
     count: &mut usize,
 ) -> u8
-    ensures { λ r. ⌜ SettledOctet heard r (now (memory .entry)) (now (memory .exit)) (now (octets .entry)) (now (octets .exit)) (now (ended .entry)) (now (ended .exit)) (now («data» .entry)) (now («data» .exit)) (now (count .entry)) (now (count .exit)) ⌝ }
+    ensures { λ r. ⌜ SettledOctet heard r (now (memory .entry)) (now (memory .exit)) (now (length .entry)) (now (length .exit)) (now (ended .entry)) (now (ended .exit)) (now («data» .entry)) (now («data» .exit)) (now (count .entry)) (now (count .exit)) ⌝ }
 {
     let tool = heard.tool;
     let answer = heard.answer;
@@ -39,11 +38,11 @@ fn settle(
     let frame = heard.frame;
     let contents = heard.contents;
     let held = contents.octets;
-    let length = contents.length;
-    octets::put(data, 0, octets::part(&held, 0, length.0));
-    *octets = frame.0;
+    let amount = contents.length;
+    octets::put(data, 0, octets::part(&held, 0, amount.0));
+    *length = frame.0;
     *ended = ended_mark(answer);
-    *count = length.0;
+    *count = amount.0;
     number
 }
 
@@ -53,16 +52,16 @@ pub extern "C" fn propolisk_tool_octet(
     memory: &mut [u8; 263],
     octet: u8,
     frame: &mut [u8],
-    octets: &mut usize,
+    length: &mut usize,
     ended: &mut u8,
     data: &mut [u8; 116],
     count: &mut usize,
 ) -> u8
-    ensures { λ r. ⌜ record { number = r; memory = now (memory .exit); frame = now (frame .exit); length = now (octets .exit); ended = now (ended .exit); content = now («data» .exit); count = now (count .exit) } ≡ octetOutcome (Octet octet (length (now (frame .entry)))) (record { number = 0; memory = now (memory .entry); frame = now (frame .entry); length = now (octets .entry); ended = now (ended .entry); content = now («data» .entry); count = now (count .entry) }) ⌝ }
+    ensures { λ r. ⌜ record { number = r; memory = now (memory .exit); frame = now (frame .exit); length = now (length .exit); ended = now (ended .exit); content = now («data» .exit); count = now (count .exit) } ≡ octetOutcome (Octet octet) (record { number = 0; memory = now (memory .entry); frame = now (frame .entry); length = now (length .entry); ended = now (ended .entry); content = now («data» .entry); count = now (count .entry) }) ⌝ }
 {
     let tool = tool_memory::decode(memory);
     let heard = tool.octet(octet, frame);
-    settle(memory, heard, octets, ended, data, count)
+    settle(memory, heard, length, ended, data, count)
 }
 
 // The number of an event without a buffer, and the memory that it leaves.

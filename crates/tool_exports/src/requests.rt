@@ -1,8 +1,7 @@
 // The five requests. Each tests 17, 12, 16, 6, 7 in this order; a refusal changes nothing.
 ghost use mathlib.Core.Path.{_≡_};
-ghost use lib.ListN.{length};
 ghost use Rattle.tool.specs.Events.{Read, Transfer, Program, Broadcast, Initialise};
-ghost use Rattle.tool_exports.specs.Outcomes.{RequestLent, requestOutcome};
+ghost use Rattle.tool_exports.specs.Outcomes.{requestOutcome};
 ghost use Rattle.tool_exports.specs.Settling.{Settled};
 use crate::settling::ended_mark;
 use crate::settling::store;
@@ -13,11 +12,11 @@ use tool::Requested;
 fn settle(
     memory: &mut [u8; 263],
     requested: Requested,
-    octets: &mut usize,
+    length: &mut usize,
     wake: &mut u8,
     ended: &mut u8,
 ) -> u8
-    ensures { λ r. ⌜ Settled requested r (now (memory .entry)) (now (memory .exit)) (now (octets .entry)) (now (octets .exit)) (now (wake .entry)) (now (wake .exit)) (now (ended .entry)) (now (ended .exit)) ⌝ }
+    ensures { λ r. ⌜ Settled requested r (now (memory .entry)) (now (memory .exit)) (now (length .entry)) (now (length .exit)) (now (wake .entry)) (now (wake .exit)) (now (ended .entry)) (now (ended .exit)) ⌝ }
 {
     let tool = requested.tool;
     let answer = requested.answer;
@@ -28,7 +27,7 @@ fn settle(
     }
     let frame = requested.frame;
     let waking = requested.wake;
-    *octets = frame.0;
+    *length = frame.0;
     *wake = wake_mark(waking);
     *ended = ended_mark(answer);
     number
@@ -42,15 +41,15 @@ pub extern "C" fn propolisk_tool_read(
     adp: u8,
     tab: u8,
     frame: &mut [u8],
-    octets: &mut usize,
+    length: &mut usize,
     wake: &mut u8,
     ended: &mut u8,
 ) -> u8
-    ensures { λ r. ⌜ record { number = r; memory = now (memory .exit); frame = now (frame .exit); length = now (octets .exit); wake = now (wake .exit); ended = now (ended .exit) } ≡ requestOutcome (Read (now (ads .entry)) adp tab (length (now (frame .entry)))) (record { number = 0; memory = now (memory .entry); frame = now (frame .entry); length = now (octets .entry); wake = now (wake .entry); ended = now (ended .entry) }) ⌝ }
+    ensures { λ r. ⌜ record { number = r; memory = now (memory .exit); frame = now (frame .exit); length = now (length .exit); wake = now (wake .exit); ended = now (ended .exit) } ≡ requestOutcome (Read (now (ads .entry)) adp tab) (record { number = 0; memory = now (memory .entry); frame = now (frame .entry); length = now (length .entry); wake = now (wake .entry); ended = now (ended .entry) }) ⌝ }
 {
     let tool = tool_memory::decode(memory);
     let requested = tool.read(ads, adp, tab, frame);
-    settle(memory, requested, octets, wake, ended)
+    settle(memory, requested, length, wake, ended)
 }
 
 // Writes a record without a key.
@@ -62,15 +61,15 @@ pub extern "C" fn propolisk_tool_transfer(
     tab: u8,
     data: &[u8],
     frame: &mut [u8],
-    octets: &mut usize,
+    length: &mut usize,
     wake: &mut u8,
     ended: &mut u8,
 ) -> u8
-    ensures { λ r. ⌜ record { number = r; memory = now (memory .exit); frame = now (frame .exit); length = now (octets .exit); wake = now (wake .exit); ended = now (ended .exit) } ≡ requestOutcome (Transfer (now (ads .entry)) adp tab (now («data» .entry)) (length (now (frame .entry)))) (record { number = 0; memory = now (memory .entry); frame = now (frame .entry); length = now (octets .entry); wake = now (wake .entry); ended = now (ended .entry) }) ⌝ }
+    ensures { λ r. ⌜ record { number = r; memory = now (memory .exit); frame = now (frame .exit); length = now (length .exit); wake = now (wake .exit); ended = now (ended .exit) } ≡ requestOutcome (Transfer (now (ads .entry)) adp tab (now («data» .entry))) (record { number = 0; memory = now (memory .entry); frame = now (frame .entry); length = now (length .entry); wake = now (wake .entry); ended = now (ended .entry) }) ⌝ }
 {
     let tool = tool_memory::decode(memory);
     let requested = tool.transfer(ads, adp, tab, data, frame);
-    settle(memory, requested, octets, wake, ended)
+    settle(memory, requested, length, wake, ended)
 }
 
 // Writes a record with a key: REC now, and AUT after the right ECH.
@@ -84,15 +83,15 @@ pub extern "C" fn propolisk_tool_program(
     key: &[u8],
     na1: &[u8],
     frame: &mut [u8],
-    octets: &mut usize,
+    length: &mut usize,
     wake: &mut u8,
     ended: &mut u8,
 ) -> u8
-    ensures { λ r. ⌜ record { number = r; memory = now (memory .exit); frame = now (frame .exit); length = now (octets .exit); wake = now (wake .exit); ended = now (ended .exit) } ≡ requestOutcome (Program (now (ads .entry)) adp tab (now («data» .entry)) (now (key .entry)) (now (na1 .entry)) (length (now (frame .entry)))) (record { number = 0; memory = now (memory .entry); frame = now (frame .entry); length = now (octets .entry); wake = now (wake .entry); ended = now (ended .entry) }) ⌝ }
+    ensures { λ r. ⌜ record { number = r; memory = now (memory .exit); frame = now (frame .exit); length = now (length .exit); wake = now (wake .exit); ended = now (ended .exit) } ≡ requestOutcome (Program (now (ads .entry)) adp tab (now («data» .entry)) (now (key .entry)) (now (na1 .entry))) (record { number = 0; memory = now (memory .entry); frame = now (frame .entry); length = now (length .entry); wake = now (wake .entry); ended = now (ended .entry) }) ⌝ }
 {
     let tool = tool_memory::decode(memory);
     let requested = tool.program(ads, adp, tab, data, key, na1, frame);
-    settle(memory, requested, octets, wake, ended)
+    settle(memory, requested, length, wake, ended)
 }
 
 // Writes a record of every station; done once sent.
@@ -104,15 +103,15 @@ pub extern "C" fn propolisk_tool_broadcast(
     tab: u8,
     data: &[u8],
     frame: &mut [u8],
-    octets: &mut usize,
+    length: &mut usize,
     wake: &mut u8,
     ended: &mut u8,
 ) -> u8
-    ensures { λ r. ⌜ record { number = r; memory = now (memory .exit); frame = now (frame .exit); length = now (octets .exit); wake = now (wake .exit); ended = now (ended .exit) } ≡ requestOutcome (Broadcast (now (ads .entry)) adp tab (now («data» .entry)) (length (now (frame .entry)))) (record { number = 0; memory = now (memory .entry); frame = now (frame .entry); length = now (octets .entry); wake = now (wake .entry); ended = now (ended .entry) }) ⌝ }
+    ensures { λ r. ⌜ record { number = r; memory = now (memory .exit); frame = now (frame .exit); length = now (length .exit); wake = now (wake .exit); ended = now (ended .exit) } ≡ requestOutcome (Broadcast (now (ads .entry)) adp tab (now («data» .entry))) (record { number = 0; memory = now (memory .entry); frame = now (frame .entry); length = now (length .entry); wake = now (wake .entry); ended = now (ended .entry) }) ⌝ }
 {
     let tool = tool_memory::decode(memory);
     let requested = tool.broadcast(ads, adp, tab, data, frame);
-    settle(memory, requested, octets, wake, ended)
+    settle(memory, requested, length, wake, ended)
 }
 
 // Initialises the bus; done once sent.
@@ -122,13 +121,13 @@ pub extern "C" fn propolisk_tool_initialise(
     ads: &[u8],
     adp: u8,
     frame: &mut [u8],
-    octets: &mut usize,
+    length: &mut usize,
     wake: &mut u8,
     ended: &mut u8,
 ) -> u8
-    ensures { λ r. ⌜ record { number = r; memory = now (memory .exit); frame = now (frame .exit); length = now (octets .exit); wake = now (wake .exit); ended = now (ended .exit) } ≡ requestOutcome (Initialise (now (ads .entry)) adp (length (now (frame .entry)))) (record { number = 0; memory = now (memory .entry); frame = now (frame .entry); length = now (octets .entry); wake = now (wake .entry); ended = now (ended .entry) }) ⌝ }
+    ensures { λ r. ⌜ record { number = r; memory = now (memory .exit); frame = now (frame .exit); length = now (length .exit); wake = now (wake .exit); ended = now (ended .exit) } ≡ requestOutcome (Initialise (now (ads .entry)) adp) (record { number = 0; memory = now (memory .entry); frame = now (frame .entry); length = now (length .entry); wake = now (wake .entry); ended = now (ended .entry) }) ⌝ }
 {
     let tool = tool_memory::decode(memory);
     let requested = tool.initialise(ads, adp, frame);
-    settle(memory, requested, octets, wake, ended)
+    settle(memory, requested, length, wake, ended)
 }

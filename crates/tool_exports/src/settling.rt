@@ -1,9 +1,6 @@
 // What a call leaves in lent memory and cells.
 ghost use mathlib.Core.Path.{_≡_};
-ghost use lib.ListN.{length};
-ghost use Rattle.octets.specs.Splice.{fronted};
-ghost use Rattle.tool.specs.Numbers.{numberOf};
-ghost use Rattle.tool_exports.specs.Outcomes.{stored, shown, wakeMark, endedMark};
+ghost use Rattle.tool_exports.specs.Outcomes.{stored, wakeMark, endedMark};
 use tool::Answer;
 use tool::Tool;
 use wake::Wake;

@@ -1,19 +1,18 @@
 -- Memory that is sound for 12 holds a sound tool, and encoding the tool that it holds gives the memory back.
-use Prim.Native.Nat.{ℕ, zero, suc, _≤_, _<_}
-use mathlib.Core.Path.{_≡_, refl, sym, ap, _∙_}
+use Prim.Native.Nat.{ℕ, _≤_, _<_}
+use mathlib.Core.Path.{_≡_, refl, _∙_}
 use mathlib.Core.Bool.{Bool, true, false, cond, not, _&&_, _||_}
 use mathlib.Core.List.{List, [], _∷_, append-nil}
 use native.Mathlib.Omega.{arith}
 use lib.Dec.{eqb, leb, lit≤}
 use lib.ListN.{length, getD}
-use lib.Seq.{take-all}
 use borrow.Author.Tests.{leb-true}
 use Rattle.octets.specs.Part.{partOf}
-use Rattle.octets.proofs.Parts.{length-part, getD-part, part-cons, part-front, part-join, part-none}
+use Rattle.octets.proofs.Parts.{length-part, getD-part, part-join, part-all, part-one, part-two}
 use Rattle.receiver.specs.Receiver as receiver
-use Rattle.receiver_memory.specs.Fields.{markOf}
 use Rattle.receiver_memory.specs.Receiver as receiver-memory
-use Rattle.receiver_memory.proofs.Fields.{field-part, length-field, narrowed-fits}
+use Rattle.receiver_memory.proofs.Fields.{field-part, length-field}
+use Rattle.receiver_memory.proofs.Receiver.{image-decoded}
 use Rattle.tool.specs.Soundness.{fitting, sound}
 use Rattle.tool_memory.specs.Phases.{phaseOf, unused}
 use Rattle.tool_memory.specs.Waking.{wakingOf}
@@ -62,27 +61,6 @@ decoded-shaped m e =
       octets = length-field 127 (partOf m 134 263) 2 (rw (length-part m 134 263 (lit≤ tt) (omega arith)) (lit≤ tt));
     }
 
-part-all : (m : List ℕ) (n : ℕ) → length m ≡ n → partOf m 0 n ≡ m
-part-all m n e = part-front m n (omega arith) ∙ take-all n m (omega arith)
-
-part-one : (m : List ℕ) (a : ℕ) → suc a ≤ length m → partOf m a (suc a) ≡ getD m a 0 ∷ []
-part-one m a h = part-cons m a (suc a) (omega arith) h ∙ ap (λ (l : List ℕ). getD m a 0 ∷ l) (part-none m (suc a) (suc a) (omega arith))
-
-part-two : (m : List ℕ) (a e : ℕ) → suc (suc a) ≤ e → e ≤ length m → partOf m a e ≡ getD m a 0 ∷ getD m (suc a) 0 ∷ partOf m (suc (suc a)) e
-part-two m a e h k = part-cons m a e (omega arith) k ∙ ap (λ (l : List ℕ). getD m a 0 ∷ l) (part-cons m (suc a) e (omega arith) k)
-
--- the octets of a receiver come back from the receiver that they hold
-mark-octet : (n : ℕ) → n ≤ 1 → markOf (eqb n 1) ≡ n
-mark-octet zero h = refl
-mark-octet (suc zero) h = refl
-mark-octet (suc (suc j)) h = impossible (omega arith)
-
-receiver-octets : (s : List ℕ) → length s ≡ 129 → getD s 0 0 ≤ 1 → getD s 1 0 < 256 → receiver-memory.image (receiver-memory.decoded s) ≡ s
-unfolding receiver-memory.image receiver-memory.decoded
-receiver-octets s e h k =
-    rw (mark-octet (getD s 0 0) h, narrowed-fits (getD s 1 0) k, field-part 127 s 2 (omega arith))
-    (sym (part-two s 0 129 (lit≤ tt) (omega arith)) ∙ part-all s 129 e)
-
 -- the ten parts of a memory are the memory
 parts-joined : (m : List ℕ) → length m ≡ 263 →
     flat (partOf m 0 3 ∷ partOf m 3 9 ∷ partOf m 9 10 ∷ partOf m 10 18 ∷ partOf m 18 26 ∷ partOf m 26 126 ∷ partOf m 126 127 ∷ partOf m 127 133 ∷ partOf m 133 134 ∷ partOf m 134 263 ∷ []) ≡ m
@@ -120,7 +98,7 @@ encoded-decoded m e u few narrow =
       field-part 100 m 26 (omega arith),
       last-mark-back (getD m 126 0) (used m u .last),
       field-part 6 m 127 (omega arith),
-      receiver-octets p lp first second,
+      image-decoded p lp first second,
       ← part-one m 133 (omega arith),
       ← part-one m 126 (omega arith),
       ← part-one m 9 (omega arith),

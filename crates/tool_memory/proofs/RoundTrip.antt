@@ -3,6 +3,7 @@ use Prim.Native.Nat.{ℕ, _+_, _-_, _≤_, _<_}
 use mathlib.Core.Path.{_≡_, refl, sym, ap, _∙_}
 use mathlib.Core.Bool.{true, cond}
 use mathlib.Core.List.{List, [], _∷_}
+use native.Mathlib.Nat.{zero-add}
 use native.Mathlib.Omega.{arith}
 use lib.Dec.{lit≤}
 use lib.ListN.{length, getD}
@@ -68,14 +69,9 @@ module _ (t : Tool) (s : Shaped t) (tab n : ℕ) where
   reach : (e : ℕ) → e ≤ 263 → e ≤ length octets
   reach e h = rw long h
 
-  mark-at : getD octets 0 0 ≡ getD head 0 0
-  mark-at = octet-of octets head 0 3 0 (ten.head-part _ _ _ _ _ _ _ _ _ _ as-laid) (reach 3 (lit≤ tt)) (omega arith)
-
-  tab-at : getD octets 1 0 ≡ getD head 1 0
-  tab-at = octet-of octets head 0 3 1 (ten.head-part _ _ _ _ _ _ _ _ _ _ as-laid) (reach 3 (lit≤ tt)) (omega arith)
-
-  length-at : getD octets 2 0 ≡ getD head 2 0
-  length-at = octet-of octets head 0 3 2 (ten.head-part _ _ _ _ _ _ _ _ _ _ as-laid) (reach 3 (lit≤ tt)) (omega arith)
+  -- mark, TAB and length of the request
+  head-at : (j : ℕ) → j < 3 → getD octets j 0 ≡ getD head j 0
+  head-at j k = rw (zero-add j) at (octet-of octets head 0 3 j (ten.head-part _ _ _ _ _ _ _ _ _ _ as-laid) (reach 3 (lit≤ tt)) (omega arith))
 
   adp-at : getD octets 9 0 ≡ t .adp
   adp-at = octet-of octets (t .adp ∷ []) 9 10 0 (ten.adp-part _ _ _ _ _ _ _ _ _ _ as-laid) (reach 10 (lit≤ tt)) (omega arith)
@@ -90,11 +86,18 @@ module _ (t : Tool) (s : Shaped t) (tab n : ℕ) where
   unfolding receiver-memory.image
   skipping-at = octet-of octets receiver 134 263 0 (ten.receiver-part _ _ _ _ _ _ _ _ _ _ as-laid) (reach 263 (lit≤ tt)) (omega arith)
 
+  -- what stands between the head and the receiver
+  abbrev between : List ℕ
+  between = flat (t .ads ∷ (t .adp ∷ []) ∷ t .key ∷ t .na1 ∷ t .sent ∷ last ∷ t .waking .station ∷ successes ∷ [])
+
+  between-part : partOf octets 3 134 ≡ between
+  between-part = ten.between-part _ _ _ _ _ _ _ _ _ _ as-laid
+
   marks-used : marksInUse octets ≡ true
   unfolding marksInUse
   marks-used =
       rw (
-        mark-at,
+        head-at 0 (omega arith),
         last-at,
         skipping-at,
         le-leb _ _ (mark-used (t .phase) tab n),
@@ -116,12 +119,18 @@ module _ (t : Tool) (s : Shaped t) (tab n : ℕ) where
   receiver-back narrow = rw (ten.receiver-part _ _ _ _ _ _ _ _ _ _ as-laid) (decoded-image (t .receiver) (s .octets) narrow)
 
   request-back : sentLength (t .phase) < 256 → cond (marksInUse octets) (phaseOf (getD octets 0 0) (getD octets 1 0) (getD octets 2 0)) unused ≡ t .phase
-  request-back narrow = rw (marks-used, mark-at, tab-at, length-at) (phase-back (t .phase) tab n narrow)
+  request-back narrow = rw (marks-used, head-at 0 (omega arith), head-at 1 (omega arith), head-at 2 (omega arith)) (phase-back (t .phase) tab n narrow)
 
 module _ (t : Tool) (m : List ℕ) (sized : length m ≡ 263) (s : Shaped t) where
   pub as-octets : encoded t m ≡ octets t s (getD m 1 0) (getD m 2 0)
   unfolding encoded wakingPlaced programmingPlaced requestPlaced
   as-octets = ten.laid _ _ _ _ _ _ _ _ _ _ (as-laid t s (getD m 1 0) (getD m 2 0)) m sized
+
+  pub encoded-head : (j : ℕ) → j < 3 → getD (encoded t m) j 0 ≡ getD (headOf (t .phase) (getD m 1 0) (getD m 2 0)) j 0
+  encoded-head j k = rw as-octets (head-at t s (getD m 1 0) (getD m 2 0) j k)
+
+  pub encoded-between : partOf (encoded t m) 3 134 ≡ between t s (getD m 1 0) (getD m 2 0)
+  encoded-between = rw as-octets (between-part t s (getD m 1 0) (getD m 2 0))
 
   pub encoded-length : length (encoded t m) ≡ 263
   encoded-length = rw as-octets (long t s (getD m 1 0) (getD m 2 0))

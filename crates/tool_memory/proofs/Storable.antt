@@ -1,6 +1,6 @@
 -- A tool that memory can hold: sound, with arrays as long as their types say and a count that fits an octet. Every call gives such a tool back.
 use Prim.Native.Nat.{ℕ, _+_, _≤_, _<_}
-use mathlib.Core.Path.{_≡_, refl, ap, _∙_}
+use mathlib.Core.Path.{_≡_, refl, _∙_}
 use mathlib.Core.Bool.{Bool, true, false, cond, _&&_}
 use mathlib.Core.List.{List, []}
 use native.Mathlib.Omega.{arith}
@@ -29,8 +29,8 @@ use Rattle.tool.specs.Parts.{fresh, inPhase, withReceiver, withWaking, Response
 use Rattle.tool.specs.Requests.{limitOf, fieldsTo, zero8, running, keeping, programming, afterRead, afterTransfer, afterProgram, afterBroadcast, afterInitialise}
 use Rattle.tool.specs.Events.{afterStep, Call, Read, Transfer, Program, Broadcast, Initialise, Octet, Gap, SessionEnd, after}
 use Rattle.tool.proofs.Endings.{Ends, quiet, well, ill, echoed}
-use Rattle.tool.proofs.Courses.{Asks, unasked, sent, asks, nothing, dropped, framed, Takes, untaken, heard, takes-octet, takes-gap, emptied, Closes, unclosed, still, ended, closes}
-use Rattle.tool.proofs.Kept.{Kept, fresh-kept, after-kept}
+use Rattle.tool.proofs.Courses.{tool-of, Asks, unasked, sent, asks, nothing, dropped, framed, Takes, untaken, heard, takes-octet, takes-gap, emptied, Closes, unclosed, still, ended, closes}
+use Rattle.tool.proofs.StaysSound.{Whole, fresh-whole, after-whole}
 use Rattle.tool_memory.proofs.Shape.{Shaped, fresh-shaped}
 
 record Fits (t : Tool) : Type 0 where
@@ -76,9 +76,6 @@ succeeded-station w e = go (lastEnqTrf (w .last) && ltb (w .successes .0) 5)
 given : {u v : Tool} → u ≡ v → Fits v → Fits u
 given e f = rw e f
 
-tool-of : {r s : Response} → r ≡ s → r .tool ≡ s .tool
-tool-of e = ap (λ (s : Response). s .tool) e
-
 -- an admitted request, whose tool before the wake-up memory is next
 asking-fits : (next : Tool) (q : Request) (ads : List ℕ) → length ads ≡ 6 → Fits next → Fits (withWaking (asked (next .waking) q ads) next)
 asking-fits next q ads a f = waking-fits next f (asked (next .waking) q ads) (asked-station (next .waking) q ads a (f .shaped .station))
@@ -94,27 +91,27 @@ ends-fits t c x d r f (well w s e) =
 ends-fits t c x d r f (ill w y p e) = given (tool-of e) (phase-fits t f _)
 ends-fits t c x d r f (echoed w h e) = given (tool-of e) (phase-fits t f _)
 
-step-fits : (g : Reception → Step) → Keeps g → (t : Tool) → Kept t → Fits t → Fits (afterStep (g (receptionOf (t .receiver))) t)
+step-fits : (g : Reception → Step) → Keeps g → (t : Tool) → Whole t → Fits t → Fits (afterStep (g (receptionOf (t .receiver))) t)
 step-fits g p t k f =
     let h = g (receptionOf (t .receiver)) .next in
     let s = p (receptionOf (t .receiver)) (reception-sound (t .receiver) (k .sound .receiver) (k .long)) in
     receiver-fits t f _ (holding-long h (t .receiver) s (k .long)) (holding-narrow h (t .receiver) s (f .narrow))
 
-takes-fits : (g : Reception → Step) → Keeps g → (t : Tool) (r : Response) → Kept t → Fits t → Takes g t r → Fits (r .tool)
+takes-fits : (g : Reception → Step) → Keeps g → (t : Tool) (r : Response) → Whole t → Fits t → Takes g t r → Fits (r .tool)
 takes-fits g p t r k f (untaken x s e) = given (tool-of e) f
 takes-fits g p t r k f (heard z (nothing e)) = given (tool-of e) (step-fits g p t k f)
 takes-fits g p t r k f (heard z (dropped y e)) = given (tool-of e) (step-fits g p t k f)
 takes-fits g p t r k f (heard z (framed c s u e)) = ends-fits _ c _ _ r (step-fits g p t k f) e
 
-emptied-fits : (t : Tool) → Kept t → Fits t → Fits (emptied t)
+emptied-fits : (t : Tool) → Whole t → Fits t → Fits (emptied t)
 emptied-fits t k f = receiver-fits t f _ (holding-long Awaiting (t .receiver) tt (k .long)) (holding-narrow Awaiting (t .receiver) tt (f .narrow))
 
-closes-fits : (t : Tool) (r : Response) → Kept t → Fits t → Closes t r → Fits (r .tool)
+closes-fits : (t : Tool) (r : Response) → Whole t → Fits t → Closes t r → Fits (r .tool)
 closes-fits t r k f (unclosed x s e) = given (tool-of e) f
 closes-fits t r k f (still z i e) = given (tool-of e) (emptied-fits t k f)
 closes-fits t r k f (ended z i e) = given (tool-of e) (phase-fits _ (emptied-fits t k f) _)
 
-after-fits : (t : Tool) (call : Call) → Kept t → Fits t → Fits (after t call .tool)
+after-fits : (t : Tool) (call : Call) → Whole t → Fits t → Fits (after t call .tool)
 unfolding after afterRead afterTransfer afterProgram afterBroadcast afterInitialise
 after-fits t (Read ads adp tab room) k f = asks-fits t _ ads [] room _ _ (λ a l. asking-fits _ _ ads a (running-fits t f _ (fieldsTo ads adp tab zero8 zero8) a)) f (asks t _ ads [] room _)
 after-fits t (Transfer ads adp tab d room) k f = asks-fits t _ ads d room _ _ (λ a l. asking-fits _ _ ads a (running-fits t f _ (fieldsTo ads adp tab zero8 zero8) a)) f (asks t _ ads d room _)
@@ -137,14 +134,14 @@ after-fits t Gap k f = takes-fits _ gap-keeps t _ k f (takes-gap t)
 after-fits t SessionEnd k f = closes-fits t _ k f (closes t)
 
 pub record Storable (t : Tool) : Type 0 where
-  pub kept : Kept t
+  pub whole : Whole t
   pub shaped : Shaped t
   pub narrow : t .receiver .count .0 < 256
 
 pub fresh-storable : Storable fresh
-fresh-storable = record { kept = fresh-kept; shaped = fresh-shaped; narrow = lit≤ tt }
+fresh-storable = record { whole = fresh-whole; shaped = fresh-shaped; narrow = lit≤ tt }
 
 pub after-storable : (t : Tool) (call : Call) → Storable t → Storable (after t call .tool)
 after-storable t call s =
-    let f = after-fits t call (s .kept) (record { shaped = s .shaped; narrow = s .narrow }) in
-    record { kept = after-kept t call (s .kept); shaped = f .shaped; narrow = f .narrow }
+    let f = after-fits t call (s .whole) (record { shaped = s .shaped; narrow = s .narrow }) in
+    record { whole = after-whole t call (s .whole); shaped = f .shaped; narrow = f .narrow }

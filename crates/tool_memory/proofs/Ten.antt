@@ -1,12 +1,13 @@
 -- The ten fields of tool memory as lists one after the other: what laying them over a memory leaves, and each of them read back.
 use Prim.Native.Nat.{ℕ}
-use mathlib.Core.Path.{_≡_, refl}
-use mathlib.Core.List.{List, [], _∷_}
+use mathlib.Core.Path.{_≡_, refl, ap}
+use mathlib.Core.List.{List, [], _∷_, _++_}
 use native.Mathlib.Omega.{arith}
-use lib.ListN.{length}
+use lib.ListN.{length, length-append}
 use Rattle.octets.specs.Splice.{spliced}
 use Rattle.octets.specs.Part.{partOf}
-use Rattle.tool_memory.proofs.Flat.{flat, first-length, more-length, part-flat, flat-first, flat-next, flat-whole}
+use Rattle.octets.proofs.Parts.{part-middle}
+use Rattle.tool_memory.proofs.Flat.{flat, flat-append, first-length, more-length, part-flat, flat-first, flat-next, flat-whole}
 
 module _ (h a p k n s l w x r : List ℕ) where
   abbrev pub fields : List (List ℕ)
@@ -86,6 +87,14 @@ module _ (h a p k n s l w x r : List ℕ) where
 
     pub receiver-part : partOf (flat fields) 134 263 ≡ r
     receiver-part = part-flat (h ∷ a ∷ p ∷ k ∷ n ∷ s ∷ l ∷ w ∷ x ∷ []) r [] 134 263 l9 (omega (arith, f .receiver))
+
+    -- all between the head and the receiver
+    pub between-part : partOf (flat fields) 3 134 ≡ flat (a ∷ p ∷ k ∷ n ∷ s ∷ l ∷ w ∷ x ∷ [])
+    unfolding flat
+    between-part =
+        let mid = flat (a ∷ p ∷ k ∷ n ∷ s ∷ l ∷ w ∷ x ∷ []) in
+        let e : flat fields ≡ h ++ (mid ++ flat (r ∷ [])) = ap (λ (v : List ℕ). h ++ v) (flat-append (a ∷ p ∷ k ∷ n ∷ s ∷ l ∷ w ∷ x ∷ []) (r ∷ [])) in
+        rw e (part-middle h mid (flat (r ∷ [])) 3 134 (f .head) (omega (arith, l9, length-append h mid, f .head)))
 
     -- the fields laid over a memory one after the other
     pub laid : (m : List ℕ) → length m ≡ 263 → spliced (spliced (spliced (spliced (spliced (spliced (spliced (spliced (spliced (spliced m 0 h) 3 a) 9 p) 10 k) 18 n) 26 s) 126 l) 127 w) 133 x) 134 r ≡ flat fields

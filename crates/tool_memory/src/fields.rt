@@ -21,8 +21,5 @@ pub(crate) fn hundred_at(memory: &[u8], at: usize) -> [u8; 100]
     requires { ⌜ at ≤ 263 ⌝ }
     ensures { λ r. ⌜ r ≡ fieldAt 100 (now (memory .entry)) at ⌝ }
 {
-    let part = octets::part(memory, at, at + 100);
-    let mut a = [0u8; 100];
-    octets::put(&mut a, 0, part);
-    a
+    octets::hundred(octets::part(memory, at, at + 100))
 }

@@ -1,7 +1,5 @@
 // A tool in lent memory, octet by octet: docs/TOOL_MEMORY.md has the layout. Lengths are narrowed to one octet here and nowhere else.
 ghost use mathlib.Core.Path.{_≡_};
-ghost use lib.ListN.{getD};
-ghost use Rattle.tool_memory.specs.Phases.{phaseOf, unused};
 ghost use Rattle.tool_memory.specs.Layout.{marksInUse, decoded, requestPlaced, programmingPlaced, wakingPlaced, encoded};
 
 mod fields;

@@ -5,12 +5,6 @@ use label::Octets;
 use receiver_memory::narrowed;
 use tool::Phase;
 
-fn wide(octet: u8) -> usize
-    ensures { λ r. ⌜ r ≡ octet ⌝ }
-{
-    octet as usize
-}
-
 pub(crate) fn phase_of(mark: u8, tab: u8, length: u8) -> Phase
     ensures { λ r. ⌜ r ≡ phaseOf mark tab length ⌝ }
 {
@@ -20,7 +14,7 @@ pub(crate) fn phase_of(mark: u8, tab: u8, length: u8) -> Phase
         2 => Phase::Transferring,
         3 => Phase::Programming {
             tab: tab,
-            length: Octets(wide(length)),
+            length: Octets(length as usize),
         },
         4 => Phase::Authenticating,
         _ => Phase::Programming {

@@ -37,11 +37,8 @@ part-name-length-end c = search needs
 name-length-requires : tie.Need-name-length-requires
 name-length-requires c κs = search needs
 
-slice-aggregate-print-at-line : tie.Need-slice-aggregate-print-at-line
-slice-aggregate-print-at-line c = search needs
-
-print-at-line-requires : tie.Need-print-at-line-requires
-print-at-line-requires c κs = search needs
+print-no-vector-requires : tie.Need-print-no-vector-requires
+print-no-vector-requires c κs = search needs
 
 returns-2 : tie.Need-returns-2
 returns-2 c = search needs
@@ -71,8 +68,7 @@ with-line-spec =
     part-name-length-start
     part-name-length-end
     name-length-requires
-    slice-aggregate-print-at-line
-    print-at-line-requires
+    print-no-vector-requires
     returns-2
     with-vector-requires
     returns-3)

@@ -1,5 +1,4 @@
 -- `frame_exports::propolisk_frame_read` meets its contract: a refusal leaves all, and a good frame's fields are those that `frame::read` gives.
-use mathlib.Core.Path.{sym, _∙_}
 use borrow.Author.Needs.{needs}
 use Rattle.frame_exports.proofs.Outcomes.{read-bad, read-good}
 use Rattle.frame_exports.proofs.propolisk_frame_read.Statement.{statement}

@@ -3,7 +3,6 @@ use mathlib.Core.Path.{_∙_}
 use native.Mathlib.Omega.{arith}
 use denote.Ref.{now}
 use Rattle.swap_write.specs.Heads.{headOf}
-use Rattle.swap_list.proofs.Placing.{lesser-most}
 use Rattle.swap_list.proofs.Held.{too-long, added}
 use borrow.Author.Needs.{needs}
 use Rattle.swap_list.proofs.add_record.Statement.{statement}
@@ -14,14 +13,14 @@ at-most-requires c κs = search needs
 
 mul-head-end : tie.Need-mul-head-end
 mul-head-end c =
-    omega (arith, c .at-most .ensures, lesser-most (c .before .before .before .before .before .before .args .list .records .0) 4096)
+    omega (arith, c .at-most .ensures)
 
 at-most-requires-2 : tie.Need-at-most-requires-2
 at-most-requires-2 c κs = search needs
 
 sub-if1 : tie.Need-sub-if1
 sub-if1 c =
-    omega (arith, c .at-most2 .ensures, lesser-most (c .before .before .before .before .before .before .before .args .list .octets .0) 65536)
+    omega (arith, c .at-most2 .ensures)
 
 returns : tie.Need-returns
 returns c =
@@ -36,7 +35,7 @@ add-to-requires c κs =
     let b = c .before .before .before .before .before .before .before .before .before .before .before .before in (
       b .pre,
       (
-        omega (arith, c .before .before .before .before .before .before .at-most .ensures, lesser-most (b .args .list .records .0) 4096),
+        omega (arith, c .before .before .before .before .before .before .at-most .ensures),
         omega arith,
         omega (arith, c .before .before .before .before .if1 .left, c .before .before .before .before .before .at-most2 .ensures),
       ),

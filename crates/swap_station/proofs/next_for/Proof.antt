@@ -1,13 +1,14 @@
 -- `next_for`: a record of another station is passed over, and the answer from the next cursor on is the same.
 use borrow.Author.Needs.{needs}
 use native.Mathlib.Omega.{arith}
-use mathlib.Core.Path.{_≡_, refl, sym, ap, _∙_}
+use mathlib.Core.Path.{_≡_, sym, ap, _∙_}
 use Prim.Native.Nat.{ℕ}
 use mathlib.Core.List.{List}
 use denote.Ref.{now}
 use Rattle.octets.specs.Part.{same}
+use Rattle.swap.specs.Cursor.{answerOfNext}
 use Rattle.swap_station.specs.Station.{nextFor}
-use Rattle.swap_station.proofs.Steps.{next-left, first-end, first-forged, first-found, first-other}
+use Rattle.swap_station.proofs.Steps.{next-left, first-end, first-none, first-found, first-other}
 use Rattle.swap_station.proofs.next_for.Statement.{statement}
 use Rattle.swap_station.proofs.next_for.Tie as tie
 
@@ -31,7 +32,7 @@ returns c =
     let n = c .before .before in
     let l = n .before .loop in
     let a = n .before .before .before .args in
-    first-end (now (a .file)) (l .here) (a .t3) (sym (n .next .ensures) ∙ c .enum-told .given .1) ∙ l .inv
+    first-end (now (a .file)) (l .here) (a .t3) (sym (n .next .ensures) ∙ ap answerOfNext (c .enum-told .given .1)) ∙ l .inv
 
 enum-told-2 : tie.Need-enum-told-2 Inv-loop μ-loop
 enum-told-2 c = search needs
@@ -41,7 +42,7 @@ returns-2 c =
     let n = c .before .before in
     let l = n .before .loop in
     let a = n .before .before .before .args in
-    first-forged (now (a .file)) (l .here) (a .t3) (sym (n .next .ensures) ∙ c .enum-told2 .given .1) ∙ l .inv
+    first-none (now (a .file)) (l .here) (a .t3) (sym (n .next .ensures) ∙ ap answerOfNext (c .enum-told2 .given .1)) ∙ l .inv
 
 enum-known-next : tie.Need-enum-known-next Inv-loop μ-loop
 enum-known-next c = search needs
@@ -64,7 +65,7 @@ returns-3 c =
     let n = d .before .before in
     let l = n .before .loop in
     let a = n .before .before .before .args in
-    first-found (now (a .file)) (l .here) (a .t3) _ _ (sym (n .next .ensures) ∙ d .next2 .given .1) (sym (c .before .equal .ensures ∙ ap (λ (x : List ℕ). same x (a .t3)) (c .before .before .before .before .ads .ensures)) ∙ c .if1 .taken) ∙ l .inv
+    first-found (now (a .file)) (l .here) (a .t3) _ _ (sym (n .next .ensures) ∙ ap answerOfNext (d .next2 .given .1)) (sym (c .before .equal .ensures ∙ ap (λ (x : List ℕ). same x (a .t3)) (c .before .before .before .before .ads .ensures)) ∙ c .if1 .taken) ∙ l .inv
 
 loop-less : tie.Need-loop-less Inv-loop μ-loop
 loop-less c =
@@ -72,7 +73,7 @@ loop-less c =
     let n = d .before .before in
     let l = n .before .loop in
     let a = n .before .before .before .args in
-    omega (arith, next-left (now (a .file)) (l .here) _ _ (sym (n .next .ensures) ∙ d .next2 .given .1))
+    omega (arith, next-left (now (a .file)) (l .here) _ _ (sym (n .next .ensures) ∙ ap answerOfNext (d .next2 .given .1)))
 
 loop-again : tie.Need-loop-again Inv-loop μ-loop
 loop-again c =
@@ -80,7 +81,7 @@ loop-again c =
     let n = d .before .before in
     let l = n .before .loop in
     let a = n .before .before .before .args in
-    sym (first-other (now (a .file)) (l .here) (a .t3) _ _ (sym (n .next .ensures) ∙ d .next2 .given .1) (sym (c .before .equal .ensures ∙ ap (λ (x : List ℕ). same x (a .t3)) (c .before .before .before .before .ads .ensures)) ∙ c .if1 .left)) ∙ l .inv
+    sym (first-other (now (a .file)) (l .here) (a .t3) _ _ (sym (n .next .ensures) ∙ ap answerOfNext (d .next2 .given .1)) (sym (c .before .equal .ensures ∙ ap (λ (x : List ℕ). same x (a .t3)) (c .before .before .before .before .ads .ensures)) ∙ c .if1 .left)) ∙ l .inv
 
 pub next-for-spec : {M : Type 1} → statement M
 next-for-spec =

@@ -5,8 +5,9 @@ use lib.ListN.{length}
 use denote.Ref.{now}
 use Rattle.label.specs.declared.Octets.{Octets}
 use Rattle.label.specs.Fitting.{given, inOctets}
+use Rattle.number.specs.Answers.{swapFault}
 use Rattle.swap.specs.Record.{fileLimit}
-use Rattle.swap.specs.Reading.{answerOfVerdict, swapFault}
+use Rattle.swap.specs.Reading.{answerOfVerdict}
 use Rattle.swap.proofs.Verdicts.{verdict-long}
 use Rattle.swap_write.specs.Heads.{fileOf}
 use Rattle.swap_write.specs.Writing.{Outcome, wrote}

@@ -1,7 +1,6 @@
 -- `Card::admitted` runs setup's checks in the order of the definition.
 use borrow.Author.Needs.{needs}
 use borrow.Author.Tests.{not-true, not-false}
-use Rattle.card.specs.declared.Card.{Card}
 use Rattle.card.specs.Setup.{admittedWith, admitted}
 use Rattle.card.proofs.Card.admitted.Statement.{statement}
 use Rattle.card.proofs.Card.admitted.Tie as tie

@@ -1,6 +1,6 @@
 -- `Card::on_frame` goes by what the card takes, then by the command. A command that no arm names is never taken.
 use mathlib.Core.Path.{_≡_, refl, sym, _∙_}
-use mathlib.Core.Bool.{true, false, true≢false}
+use mathlib.Core.Bool.{true≢false}
 use borrow.Author.Needs.{needs}
 use borrow.Author.Tests.{not-false}
 use Rattle.frame.specs.declared.codes.Command.{Command}

@@ -1,6 +1,6 @@
 -- `send` builds a frame: neither refusal of the builder can come.
 use borrow.Author.Needs.{needs}
-use Rattle.card.proofs.Replies.{sends, never-refused}
+use Rattle.frame.proofs.Sending.{sends, never-refused}
 use Rattle.card.proofs.frames.send.Statement.{statement}
 use Rattle.card.proofs.frames.send.Tie as tie
 

@@ -1,6 +1,6 @@
 -- `broadcast` compares the address with six zeros.
 use borrow.Author.Needs.{needs}
-use Rattle.card.specs.Soundness.{broadcast}
+use Rattle.frame.specs.Addresses.{broadcast}
 use Rattle.card.proofs.sound.broadcast.Statement.{statement}
 use Rattle.card.proofs.sound.broadcast.Tie as tie
 

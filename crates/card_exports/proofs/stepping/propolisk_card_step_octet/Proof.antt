@@ -3,17 +3,17 @@ use mathlib.Core.Path.{sym, _∙_}
 use borrow.Author.Tests.{not-true, not-false}
 use Rattle.card_exports.specs.Outcome.{octetOutcome}
 use Rattle.card_exports.proofs.Calls.{unmarked}
-use Rattle.card_exports.proofs.Loans.{octet-replied}
+use Rattle.card_exports.proofs.OctetCall.{octet-replied}
 use borrow.Author.Needs.{needs}
 use Rattle.card_exports.proofs.stepping.propolisk_card_step_octet.Statement.{statement}
 use Rattle.card_exports.proofs.stepping.propolisk_card_step_octet.Tie as tie
 
-loan-fits-requires : tie.Need-loan-fits-requires
-loan-fits-requires c κs = search needs
+lengths-fit-requires : tie.Need-lengths-fit-requires
+lengths-fit-requires c κs = search needs
 
 returns : tie.Need-returns
 unfolding octetOutcome
-returns c = rw (sym (c .before .loan-fits .ensures) ∙ not-true _ (c .if1 .taken))
+returns c = rw (sym (c .before .lengths-fit .ensures) ∙ not-true _ (c .if1 .taken))
 
 marks-in-use-requires : tie.Need-marks-in-use-requires
 marks-in-use-requires c κs = search needs
@@ -25,7 +25,7 @@ returns-2 : tie.Need-returns-2
 unfolding octetOutcome
 returns-2 c =
     let t = c .before .before .before in
-    rw (sym (t .before .loan-fits .ensures) ∙ not-false _ (t .if1 .left), unmarked _ (sym (c .before .marks-in-use .ensures) ∙ not-true _ (c .if2 .taken)))
+    rw (sym (t .before .lengths-fit .ensures) ∙ not-false _ (t .if1 .left), unmarked _ (sym (c .before .marks-in-use .ensures) ∙ not-true _ (c .if2 .taken)))
 
 decode-requires : tie.Need-decode-requires
 decode-requires c κs = search needs
@@ -49,14 +49,14 @@ returns-3 c =
     let d = s .before .before in
     let t = d .before .before in
     let l = t .before .before .before in
-    octet-replied _ _ _ _ (sym (l .before .loan-fits .ensures) ∙ not-false _ (l .if1 .left)) (sym (t .before .marks-in-use .ensures) ∙ not-false _ (t .if2 .left))
+    octet-replied _ _ _ _ (sym (l .before .lengths-fit .ensures) ∙ not-false _ (l .if1 .left)) (sym (t .before .marks-in-use .ensures) ∙ not-false _ (t .if2 .left))
     _ (s .octet .result) (rw (← d .decode .ensures) (s .octet .ensures)) _ _ (f .finish .ensures)
 
 pub propolisk-card-step-octet-spec : {M : Type 1} → statement M
 propolisk-card-step-octet-spec =
     tie.close
     (tie.spec
-    loan-fits-requires
+    lengths-fit-requires
     returns
     marks-in-use-requires
     same-length

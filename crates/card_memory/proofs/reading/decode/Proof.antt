@@ -20,8 +20,8 @@ eight-requires c κs = search needs
 part-requires-3 : tie.Need-part-requires-3
 part-requires-3 c κs = search needs
 
-waiting-requires : tie.Need-waiting-requires
-waiting-requires c κs = search needs
+hundred-requires : tie.Need-hundred-requires
+hundred-requires c κs = search needs
 
 part-requires-4 : tie.Need-part-requires-4
 part-requires-4 c κs = search needs
@@ -54,7 +54,7 @@ returns c =
       d .before .part5 .ensures,
       d .before .before .eight2 .ensures,
       d .before .before .before .part4 .ensures,
-      w .waiting .ensures,
+      w .hundred .ensures,
       w .before .part3 .ensures,
       k .eight .ensures,
       k .before .part2 .ensures,
@@ -71,7 +71,7 @@ decode-spec =
     part-requires-2
     eight-requires
     part-requires-3
-    waiting-requires
+    hundred-requires
     part-requires-4
     eight-requires-2
     part-requires-5

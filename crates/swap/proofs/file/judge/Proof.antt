@@ -1,8 +1,8 @@
 -- `judge`: the length, the count and then the records, as the definition has them.
-use mathlib.Core.Path.{_≡_, sym, _∙_}
-use lib.ListN.{length}
+use mathlib.Core.Path.{_≡_, sym, ap, _∙_}
 use denote.Ref.{now}
 use Rattle.number.specs.Groups.{frontOf, found}
+use Rattle.number.specs.Answers.{answerOfReading}
 use Rattle.number.proofs.Forms.{read-front, read-faulty}
 use Rattle.number.proofs.Fronts.{front-within}
 use Rattle.swap.proofs.Verdicts.{verdict-long, verdict-none, verdict-many, verdict-records}
@@ -15,7 +15,7 @@ use Rattle.swap.proofs.file.judge.Tie as tie
 count-read : (c : tie.After-value) → let s = now (c .before .before .before .before .before .args .file) in frontOf s ≡ found (c .value .given .0 .0) (c .value .given .0 .1 .0)
 count-read c =
     let s = now (c .before .before .before .before .before .args .file) in
-    let r = read-front s 0 (c .value .given .0 .0) (c .value .given .0 .1 .0) (sym (c .before .before .read .ensures) ∙ c .value .given .1) in
+    let r = read-front s 0 (c .value .given .0 .0) (c .value .given .0 .1 .0) (sym (c .before .before .read .ensures) ∙ ap (answerOfReading 0) (c .value .given .1)) in
     let e : c .value .given .0 .1 .0 ≡ r .0 = omega (arith, r .2) in
     rw e (r .1)
 
@@ -34,7 +34,7 @@ enum-told c = search needs
 returns-2 : tie.Need-returns-2
 returns-2 c =
     let s = now (c .before .before .before .before .before .args .file) in
-    verdict-none s (c .before .before .before .if1 .left) (read-faulty s 0 (sym (c .before .before .read .ensures) ∙ c .enum-told .given .1))
+    verdict-none s (c .before .before .before .if1 .left) (read-faulty s 0 (sym (c .before .before .read .ensures) ∙ ap (answerOfReading 0) (c .enum-told .given .1)))
 
 returns-3 : tie.Need-returns-3
 returns-3 c =

@@ -5,6 +5,7 @@ use lib.ListN.{length, take, drop, length-drop}
 use borrow.Author.Tests.{not-true, not-false}
 use denote.Ref.{now}
 use Rattle.number.specs.Groups.{frontOf, found}
+use Rattle.number.specs.Answers.{answerOfReading}
 use Rattle.number.proofs.Forms.{read-front, read-faulty}
 use Rattle.number.proofs.Fronts.{front-within}
 use Rattle.swap.specs.Record.{acceptable}
@@ -19,7 +20,7 @@ use Rattle.swap.proofs.item.content_at.Tie as tie
 length-read : (c : tie.After-value) → let a = c .before .before .before .before .args in (w : ℕ) × (frontOf (drop (a .at + 8) (now (a .file))) ≡ found (c .value .given .0 .0) w) × (c .value .given .0 .1 .0 ≡ a .at + 8 + w)
 length-read c =
     let a = c .before .before .before .before .args in
-    read-front (now (a .file)) (a .at + 8) (c .value .given .0 .0) (c .value .given .0 .1 .0) (sym (c .before .before .read .ensures) ∙ c .value .given .1)
+    read-front (now (a .file)) (a .at + 8) (c .value .given .0 .0) (c .value .given .0 .1 .0) (sym (c .before .before .read .ensures) ∙ ap (answerOfReading (a .at + 8)) (c .value .given .1))
 
 next-within : (c : tie.After-value) → c .value .given .0 .1 .0 ≤ length (now (c .before .before .before .before .args .file))
 next-within c =
@@ -52,7 +53,7 @@ add-t11 c = search needs
 returns : tie.Need-returns
 returns c =
     let a = c .before .before .before .before .args in
-    content-none (a .kind) (now (a .file)) (a .at) (read-faulty (now (a .file)) (a .at + 8) (sym (c .before .before .read .ensures) ∙ c .enum-told .given .1))
+    content-none (a .kind) (now (a .file)) (a .at) (read-faulty (now (a .file)) (a .at + 8) (sym (c .before .before .read .ensures) ∙ ap (answerOfReading (a .at + 8)) (c .enum-told .given .1)))
 
 cast-count : tie.Need-cast-count
 cast-count c = search needs

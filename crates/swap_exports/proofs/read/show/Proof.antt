@@ -1,5 +1,5 @@
 -- `show`: each arm is a case of the definition.
-use Rattle.swap_exports.proofs.Outcomes.{shown-end, shown-forged, shown-record}
+use Rattle.swap_exports.proofs.Outcomes.{shown-end, shown-none, shown-record}
 use borrow.Author.Needs.{needs}
 use Rattle.swap_exports.proofs.read.show.Statement.{statement}
 use Rattle.swap_exports.proofs.read.show.Tie as tie
@@ -23,7 +23,7 @@ returns : tie.Need-returns
 returns c = shown-end _ _ _ (c .enum-told .given .1)
 
 returns-2 : tie.Need-returns-2
-returns-2 c = shown-forged _ _ _ (c .enum-told2 .given .1)
+returns-2 c = shown-none _ _ _ (c .enum-told2 .given .1)
 
 returns-3 : tie.Need-returns-3
 returns-3 c = shown-record _ _ _ _ _ _ _ (c .before .before .before .before .before .next .given .1) (c .before .before .before .ads .ensures) (c .octet-of .ensures)

@@ -1,10 +1,8 @@
 -- `insert`: three copies.
 use mathlib.Core.Path.{sym}
 use native.Mathlib.Omega.{arith}
-use lib.ListN.{length}
 use lib.Seq.{length-take-le}
 use denote.Ref.{now}
-use Rattle.swap_list.proofs.Placing.{lesser-most}
 use Rattle.swap_list.proofs.Inserting.{copied}
 use borrow.Author.Needs.{needs}
 use Rattle.swap_list.proofs.insert.insert.Statement.{statement}
@@ -16,7 +14,7 @@ at-most-requires c κs = search needs
 slice-aggregate-put : tie.Need-slice-aggregate-put
 slice-aggregate-put c =
     let a = c .before .before .before .before .before .before .args in
-    sym (length-take-le _ (now (a .src)) (rw (← c .before .before .at-most .ensures) at (lesser-most (a .at) (length (now (a .src))))))
+    sym (length-take-le _ (now (a .src)) (omega (arith, c .before .before .at-most .ensures)))
 
 put-requires : tie.Need-put-requires
 put-requires c κs = search needs
@@ -28,19 +26,19 @@ add-put : tie.Need-add-put
 add-put c =
     let t = c .before .before .before .before .before .before .before .before .before .before in
     let a = t .before .before .before .before .args in
-    omega (arith, t .at-most .ensures, lesser-most (a .at) (length (now (a .src))), t .before .before .before .before .pre)
+    omega (arith, t .at-most .ensures, t .before .before .before .before .pre)
 
 sub-put : tie.Need-sub-put
 sub-put c =
     let t = c .before .before .before .before .before .before .before .before .before .before in
     let a = t .before .before .before .before .args in
-    omega (arith, t .at-most .ensures, lesser-most (a .at) (length (now (a .src))))
+    omega (arith, t .at-most .ensures)
 
 part-put-start : tie.Need-part-put-start
 part-put-start c =
     let t = c .before .before .before .before .before .before .before .before .before .before in
     let a = t .before .before .before .before .args in
-    omega (arith, t .at-most .ensures, lesser-most (a .at) (length (now (a .src))))
+    omega (arith, t .at-most .ensures)
 
 part-put-end : tie.Need-part-put-end
 part-put-end c = search needs

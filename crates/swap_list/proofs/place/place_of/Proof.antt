@@ -1,13 +1,16 @@
 -- `place_of`: what was passed and the place among the heads left make up the place.
-use Prim.Native.Nat.{ℕ}
+use Prim.Native.Nat.{ℕ, _^_, _<_}
 use mathlib.Core.Path.{_≡_, ap, _∙_}
 use mathlib.Core.List.{List}
 use native.Mathlib.Omega.{arith}
-use lib.ListN.{take, drop}
+use lib.ListN.{getD, take, drop}
+use lib.Dec.{lit<}
 use denote.Ref.{now}
 use Rattle.swap.specs.Record.{keyOf}
 use Rattle.swap.proofs.Parts.{part-rest}
+use Rattle.octets.proofs.Below.{below-drop}
 use Rattle.swap_write.specs.Heads.{headLength}
+use Rattle.swap_write.proofs.Judged.{length-small}
 use Rattle.swap_list.proofs.Placing.{Sought, sought-start, sought-next, sought-here, sought-end}
 use borrow.Author.Needs.{needs}
 use Rattle.swap_list.proofs.place.place_of.Statement.{statement}
@@ -18,6 +21,14 @@ Inv-loop heads least left₀ head₀ from₀ left head from = Sought heads least
 
 abbrev μ-loop : tie.MeasureT-loop
 μ-loop heads least left₀ head₀ from₀ left head from = left
+
+-- the length that the head here states, and its bound
+length-stated : (c : tie.After-head-length Inv-loop μ-loop) → let n = headLength (drop (c .before .before .before .before .before .before .loop .head) (now (c .before .before .before .before .before .before .before .before .args .heads))) in (c .head-length .result ≡ n) × (n < 2 ^ 16)
+length-stated c =
+    let l = c .before .before .before .before .before .before in
+    let hs = now (l .before .before .args .heads) in
+    let octets : (i : ℕ) → getD hs i 0 < 256 = λ i. l .before .shared-slice-known .given i .fits in
+    (c .head-length .ensures ∙ ap headLength (part-rest hs (l .loop .head)), length-small (drop (l .loop .head) hs) (below-drop 256 (lit< tt) (l .loop .head) hs octets))
 
 loop-holds : tie.Need-loop-holds Inv-loop μ-loop
 loop-holds c = sought-start _ _
@@ -42,22 +53,22 @@ returns c =
     let k : c .before .key .result ≡ keyOf (take 7 (drop (l .head) hs)) = c .before .key .ensures ∙ ap (λ (t : List ℕ). keyOf (take 7 t)) (part-rest hs (l .head)) in
     sought-here hs _ (l .head) (l .from) (l .left) (l .inv) (i .loop-test .taken) (omega (arith, k, c .if1 .taken))
 
-sub-stated : tie.Need-sub-stated Inv-loop μ-loop
-sub-stated c = search needs
+sub-head-length : tie.Need-sub-head-length Inv-loop μ-loop
+sub-head-length c = search needs
 
-part-stated-start : tie.Need-part-stated-start Inv-loop μ-loop
-part-stated-start c = search needs
+part-head-length-start : tie.Need-part-head-length-start Inv-loop μ-loop
+part-head-length-start c = search needs
 
-part-stated-end : tie.Need-part-stated-end Inv-loop μ-loop
-part-stated-end c = search needs
+part-head-length-end : tie.Need-part-head-length-end Inv-loop μ-loop
+part-head-length-end c = search needs
 
-stated-requires : tie.Need-stated-requires Inv-loop μ-loop
-stated-requires c κs = search needs
+head-length-requires : tie.Need-head-length-requires Inv-loop μ-loop
+head-length-requires c κs = search needs
 
 add-from : tie.Need-add-from Inv-loop μ-loop
 add-from c =
     let l = c .before .before .before .before .before .before .loop in
-    omega (arith, l .inv .small, l .inv .heads, c .stated .ensures .1, c .before .before .before .before .before .before .before .before .pre)
+    omega (arith, l .inv .small, l .inv .heads, length-stated c .0, length-stated c .1, c .before .before .before .before .before .before .before .before .pre)
 
 add-head : tie.Need-add-head Inv-loop μ-loop
 add-head c = search needs
@@ -74,8 +85,7 @@ loop-again c =
     let l = i .before .loop in
     let hs = now (i .before .before .before .args .heads) in
     let k : c .before .before .before .key .result ≡ keyOf (take 7 (drop (l .head) hs)) = c .before .before .before .key .ensures ∙ ap (λ (t : List ℕ). keyOf (take 7 t)) (part-rest hs (l .head)) in
-    let n : c .stated .result ≡ headLength (drop (l .head) hs) = c .stated .ensures .0 ∙ ap headLength (part-rest hs (l .head)) in
-    rw n (sought-next hs _ (l .head) (l .from) (l .left) (l .inv) (i .loop-test .taken) (omega (arith, k, c .before .before .if1 .left)) (omega (arith, n, c .stated .ensures .1)))
+    rw (length-stated c .0) (sought-next hs _ (l .head) (l .from) (l .left) (l .inv) (i .loop-test .taken) (omega (arith, k, c .before .before .if1 .left)) (length-stated c .1))
 
 returns-2 : tie.Need-returns-2 Inv-loop μ-loop
 returns-2 c =
@@ -95,10 +105,10 @@ place-of-spec =
     part-key-end
     key-requires
     returns
-    sub-stated
-    part-stated-start
-    part-stated-end
-    stated-requires
+    sub-head-length
+    part-head-length-start
+    part-head-length-end
+    head-length-requires
     add-from
     add-head
     sub-left

@@ -9,7 +9,7 @@ use Rattle.octets.specs.Splice.{spliced}
 use Rattle.number.specs.Groups.{encoded}
 use Rattle.swap.proofs.Parts.{part-rest, part-count, length-rest}
 use Rattle.swap_write.specs.Heads.{headLength, frontOctets}
-use Rattle.swap_write.proofs.Laid.{Laying, accepted-heads, laying-start, laying-fits, laying-room, laying-next, laying-done, laying-whole, laying-long}
+use Rattle.swap_write.proofs.Laid.{Laying, accepted-body, laying-start, laying-fits, laying-room, laying-next, laying-done, laying-whole, laying-long}
 use borrow.Author.Needs.{needs}
 use native.Mathlib.Omega.{arith}
 use Rattle.swap_write.proofs.lay.lay.Statement.{statement}
@@ -57,8 +57,7 @@ record-laid c =
 cast-write : tie.Need-cast-write Inv-loop μ-loop
 cast-write c =
     let a = c .before .before .before .before in
-    let octets : (i : ℕ) → getD (now (a .args .heads)) i 0 < 256 = λ i. c .before .before .before .shared-slice-known .given i .fits in
-    omega (arith, accepted-heads (now (a .args .heads)) (now (a .args .contents)) (a .pre .0 .0) octets (a .pre .0 .1) .0)
+    omega (arith, accepted-body (now (a .args .heads)) (now (a .args .contents)) (a .pre .0 .0) (a .pre .0 .1) .0)
 
 write-requires : tie.Need-write-requires Inv-loop μ-loop
 write-requires c κs = search needs

@@ -1,5 +1,5 @@
 -- `addressable` compares with the broadcast address.
-use Rattle.tool.specs.Requests.{broadcast}
+use Rattle.frame.specs.Addresses.{broadcast}
 use mathlib.Core.Bool.{not}
 use mathlib.Core.Path.{sym, ap, _∙_}
 use borrow.Author.Needs.{needs}

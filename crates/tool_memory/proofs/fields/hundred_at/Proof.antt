@@ -10,16 +10,12 @@ add-part c = search needs
 part-requires : tie.Need-part-requires
 part-requires c κs = search needs
 
-slice-aggregate-put : tie.Need-slice-aggregate-put
-slice-aggregate-put c = search needs
-
-put-requires : tie.Need-put-requires
-put-requires c κs = search needs
+hundred-requires : tie.Need-hundred-requires
+hundred-requires c κs = search needs
 
 returns : tie.Need-returns
 unfolding fieldAt
-returns c = rw (c .before .put .ensures, c .before .before .before .part .ensures)
+returns c = rw (c .hundred .ensures, c .before .part .ensures)
 
 pub hundred-at-spec : {M : Type 1} → statement M
-hundred-at-spec =
-    tie.close (tie.spec add-part part-requires slice-aggregate-put put-requires returns)
+hundred-at-spec = tie.close (tie.spec add-part part-requires hundred-requires returns)

@@ -1,12 +1,8 @@
 -- `phase_of` goes by the mark.
 use borrow.Author.Tests.{ne-eqb}
-use borrow.Author.Needs.{needs}
 use Rattle.tool_memory.specs.Phases.{phaseOf}
 use Rattle.tool_memory.proofs.phases.phase_of.Statement.{statement}
 use Rattle.tool_memory.proofs.phases.phase_of.Tie as tie
-
-wide-requires : tie.Need-wide-requires
-wide-requires c κs = search needs
 
 returns : tie.Need-returns
 unfolding phaseOf
@@ -22,7 +18,7 @@ returns-3 c = rw (c .match .keys3)
 
 returns-4 : tie.Need-returns-4
 unfolding phaseOf
-returns-4 c = rw (c .before .match .keys4, c .wide .ensures)
+returns-4 c = rw (c .match .keys4)
 
 returns-5 : tie.Need-returns-5
 unfolding phaseOf
@@ -36,4 +32,4 @@ returns-6 c =
 
 pub phase-of-spec : {M : Type 1} → statement M
 phase-of-spec =
-    tie.close (tie.spec wide-requires returns returns-2 returns-3 returns-4 returns-5 returns-6)
+    tie.close (tie.spec returns returns-2 returns-3 returns-4 returns-5 returns-6)

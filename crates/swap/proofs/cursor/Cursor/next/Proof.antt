@@ -1,7 +1,7 @@
 -- `next`: what stands at the cursor, judged anew, and the cursor after it.
 use mathlib.Core.Path.{sym, _∙_}
 use denote.Ref.{now}
-use Rattle.swap.proofs.Cursors.{next-end, next-past, next-forged, next-record, entry-within}
+use Rattle.swap.proofs.Cursors.{next-end, next-past, next-none, next-record, entry-within}
 use native.Mathlib.Omega.{arith}
 use borrow.Author.Needs.{needs}
 use Rattle.swap.proofs.cursor.Cursor.next.Statement.{statement}
@@ -38,7 +38,7 @@ returns-3 : tie.Need-returns-3
 returns-3 c =
     let n = c .before .before in
     let a = n .before .before .before .before .before .args in
-    next-forged (now (a .file)) (a .self) (n .before .before .if1 .left) _ (sym (n .item-at .ensures) ∙ c .enum-told .given .1)
+    next-none (now (a .file)) (a .self) (n .before .before .if1 .left) _ (sym (n .item-at .ensures) ∙ c .enum-told .given .1)
 
 returns-4 : tie.Need-returns-4
 returns-4 c =

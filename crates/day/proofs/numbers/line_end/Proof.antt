@@ -1,0 +1,51 @@
+-- `line_end` gives an offset within the lines, and ends: the octets that are left fall by one a turn.
+use Prim.Native.Nat.{_≤_, _-_}
+use lib.ListN.{length}
+use borrow.Author.Needs.{needs}
+use Rattle.day.proofs.numbers.line_end.Statement.{statement}
+use Rattle.day.proofs.numbers.line_end.Tie as tie
+
+abbrev Inv-loop : tie.InvT-loop
+Inv-loop lines count left₀ i₀ left i = i ≤ length lines
+
+abbrev μ-loop : tie.MeasureT-loop
+μ-loop lines count left₀ i₀ left i = length lines - i
+
+loop-holds : tie.Need-loop-holds Inv-loop μ-loop
+loop-holds c = search needs
+
+shared-slice-read-if1 : tie.Need-shared-slice-read-if1 Inv-loop μ-loop
+shared-slice-read-if1 c = search needs
+
+returns : tie.Need-returns Inv-loop μ-loop
+returns c = search needs
+
+sub-left : tie.Need-sub-left Inv-loop μ-loop
+sub-left c = search needs
+
+add-i : tie.Need-add-i Inv-loop μ-loop
+add-i c = search needs
+
+loop-less : tie.Need-loop-less Inv-loop μ-loop
+loop-less c = search needs
+
+loop-again : tie.Need-loop-again Inv-loop μ-loop
+loop-again c = search needs
+
+returns-2 : tie.Need-returns-2 Inv-loop μ-loop
+returns-2 c = search needs
+
+pub line-end-spec : {M : Type 1} → statement M
+line-end-spec =
+    tie.close
+    (tie.spec
+    Inv-loop
+    μ-loop
+    loop-holds
+    shared-slice-read-if1
+    returns
+    sub-left
+    add-i
+    loop-less
+    loop-again
+    returns-2)

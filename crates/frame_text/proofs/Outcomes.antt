@@ -1,0 +1,33 @@
+-- What `put_frame` gives and leaves, case by case.
+use Prim.Native.Nat.{ℕ, _+_, _≤_, _<_}
+use mathlib.Core.Path.{_≡_, refl, sym}
+use mathlib.Core.List.{List}
+use native.Mathlib.Nat.{add-zero}
+use lib.ListN.{length}
+use borrow.Author.Tests.{le-leb, lt-leb}
+use Rattle.octets.specs.Splice.{spliced}
+use Rattle.octets.proofs.Splice.{spliced-nothing}
+use Rattle.frame.specs.declared.codes.Command.{Command}
+use Rattle.frame.specs.declared.checks.Fault.{Fault}
+use Rattle.frame.specs.declared.checks.Verdict.the-variants.{Good, Refused}
+use Rattle.frame.specs.Content.{fieldsOf, dataOf}
+use Rattle.frame.specs.Checks.{inspected}
+use Rattle.frame_text.specs.Words.{wordsOf, wordsAs, frameWords, frameEnd, frameOver}
+
+abbrev pub Outcome : List ℕ → ℕ → List ℕ → ℕ → List ℕ → Type 0
+Outcome m at s r b = (r ≡ frameEnd m at s) × (b ≡ frameOver m at s)
+
+module _ (m : List ℕ) (at : ℕ) (s : List ℕ) where
+  pub no-room : length m < at + 320 → Outcome m at s at m
+  unfolding frameEnd frameOver
+  no-room h = rw (lt-leb (at + 320) (length m) h) (refl, refl)
+
+  pub no-frame : (f : Fault) → at + 320 ≤ length m → inspected s ≡ Refused f → Outcome m at s at m
+  unfolding frameEnd frameOver frameWords wordsAs
+  no-frame f h e =
+      rw (le-leb (at + 320) (length m) h, e) (sym (add-zero at), sym (spliced-nothing m at))
+
+  pub good-frame : (c : Command) (r : ℕ) (b : List ℕ) → at + 320 ≤ length m → inspected s ≡ Good c
+      → (r ≡ at + length (wordsOf c (fieldsOf c s) (dataOf c s))) × (b ≡ spliced m at (wordsOf c (fieldsOf c s) (dataOf c s))) → Outcome m at s r b
+  unfolding frameEnd frameOver frameWords wordsAs
+  good-frame c r b h e p = rw (le-leb (at + 320) (length m) h, e) p

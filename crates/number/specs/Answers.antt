@@ -1,0 +1,33 @@
+-- Document 01's numbers for the swap file, and the number and values that each answer here stands for.
+use Prim.Native.Nat.{ℕ}
+use Rattle.number.specs.declared.Reading.{Reading}
+use Rattle.number.specs.declared.Reading.the-variants.{Number, Faulty}
+use Rattle.number.specs.declared.Written.{Written}
+use Rattle.number.specs.declared.Written.the-variants.{Next, Short}
+
+-- 01, Numbers handed back: a faulty swap file
+abbrev pub swapFault : ℕ
+swapFault = 18
+
+-- 01, Numbers handed back: a buffer too short for the file
+abbrev pub tooShort : ℕ
+tooShort = 17
+
+-- what reading answers: a number with the offset after it, or 01's number with an offset
+pub data Read : Type 0 where
+  numberThere : ℕ → ℕ → Read
+  refusedAt : ℕ → ℕ → Read
+
+-- 01, Swap file: a bad count or length is 18 at its start
+abbrev pub answerOfReading : ℕ → Reading → Read
+answerOfReading at (Number n next) = numberThere n next
+answerOfReading at Faulty = refusedAt swapFault at
+
+-- what writing answers: the offset after the number, or 01's number
+pub data Wrote : Type 0 where
+  wroteTo : ℕ → Wrote
+  refusedWith : ℕ → Wrote
+
+abbrev pub answerOfWritten : Written → Wrote
+answerOfWritten (Next next) = wroteTo next
+answerOfWritten Short = refusedWith tooShort
