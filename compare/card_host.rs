@@ -10,7 +10,7 @@ use crate::utf8::{Characters, Octets};
 
 const HOLDER: u8 = 0x0A;
 const INDEX: u8 = 0x0B;
-/// The example's numbers are a count, enciphered under this key.
+/// The examples' numbers are a count, enciphered under this key.
 const SECRET: Block = [0x5A, 0x6F, 0xC3, 0xA9, 0x10, 0x32, 0x54, 0x76];
 const WRONG_KEY: Block = [0x0E, 0x32, 0x92, 0x32, 0xEA, 0x6D, 0x0D, 0x73];
 
@@ -25,19 +25,20 @@ fn line_of(frame: &Frame) -> String {
     format!("{} {}\n", format!("{:?}", frame.body.command()).to_uppercase(), hex::text(&octets))
 }
 
-impl Host {
-    fn fresh_number(&mut self) -> Block {
-        self.octets_heard += 1;
-        des::encipher(SECRET, self.octets_heard.to_be_bytes())
-    }
+/// The next random number of an example, given how many were drawn before.
+pub fn fresh_number(drawn: &mut u64) -> Block {
+    *drawn += 1;
+    des::encipher(SECRET, drawn.to_be_bytes())
+}
 
+impl Host {
     /// The reply to a frame, after which comes a gap.
     fn send(&mut self, body: Body) -> Option<Frame> {
         let frame = Frame { ads: ADDRESS, adp: 1, body };
         self.text += &format!("  sends {}", line_of(&frame));
         let (mut buffer, mut last) = ([0; 128], None);
         for octet in frame.octets().expect("DATA within its limit") {
-            let number = self.fresh_number();
+            let number = fresh_number(&mut self.octets_heard);
             last = Some(self.card.octet(octet, &number, &mut buffer));
         }
         self.card.gap();

@@ -199,8 +199,8 @@ pub mod card {
             memory: *mut u8,
             room: usize,
             octet: u8,
-            number: *const u8,
-            number_count: usize,
+            na2: *const u8,
+            na2_count: usize,
             reply: *mut u8,
             reply_room: usize,
             length: *mut usize,
@@ -244,18 +244,18 @@ pub mod card {
     pub fn step_octet(
         memory: &mut Lent,
         octet: u8,
-        number: &mut Lent,
+        na2: &mut Lent,
         reply: &mut Lent,
         length: &mut usize,
     ) -> u8 {
-        let (room, number_count, reply_room) = (memory.count(), number.count(), reply.count());
+        let (room, na2_count, reply_room) = (memory.count(), na2.count(), reply.count());
         unsafe {
             propolisk_card_step_octet(
                 memory.pointer(),
                 room,
                 octet,
-                number.pointer(),
-                number_count,
+                na2.pointer(),
+                na2_count,
                 reply.pointer(),
                 reply_room,
                 length,

@@ -14,7 +14,7 @@ extern "C" {
         tab: u8,
         frame: *mut u8,
         room: usize,
-        octets: *mut usize,
+        length: *mut usize,
         wake: *mut u8,
         ended: *mut u8,
     ) -> u8;
@@ -28,7 +28,7 @@ extern "C" {
         data_count: usize,
         frame: *mut u8,
         room: usize,
-        octets: *mut usize,
+        length: *mut usize,
         wake: *mut u8,
         ended: *mut u8,
     ) -> u8;
@@ -46,7 +46,7 @@ extern "C" {
         na1_count: usize,
         frame: *mut u8,
         room: usize,
-        octets: *mut usize,
+        length: *mut usize,
         wake: *mut u8,
         ended: *mut u8,
     ) -> u8;
@@ -60,7 +60,7 @@ extern "C" {
         data_count: usize,
         frame: *mut u8,
         room: usize,
-        octets: *mut usize,
+        length: *mut usize,
         wake: *mut u8,
         ended: *mut u8,
     ) -> u8;
@@ -71,7 +71,7 @@ extern "C" {
         adp: u8,
         frame: *mut u8,
         room: usize,
-        octets: *mut usize,
+        length: *mut usize,
         wake: *mut u8,
         ended: *mut u8,
     ) -> u8;
@@ -80,7 +80,7 @@ extern "C" {
         octet: u8,
         frame: *mut u8,
         room: usize,
-        octets: *mut usize,
+        length: *mut usize,
         ended: *mut u8,
         data: *mut u8,
         count: *mut usize,
@@ -92,7 +92,7 @@ extern "C" {
 /// The cells that a call writes where it gives no number.
 #[derive(Clone, PartialEq, Debug)]
 pub struct Cells {
-    pub octets: usize,
+    pub length: usize,
     pub wake: u8,
     pub ended: u8,
     pub count: usize,
@@ -112,18 +112,18 @@ pub fn request(
 ) -> u8 {
     let (memory, room) = (memory.pointer(), frame.count());
     let frame = frame.pointer();
-    let (octets, wake, ended): (*mut usize, *mut u8, *mut u8) =
-        (&mut cells.octets, &mut cells.wake, &mut cells.ended);
+    let (length, wake, ended): (*mut usize, *mut u8, *mut u8) =
+        (&mut cells.length, &mut cells.wake, &mut cells.ended);
     let (ads, six) = (ads.as_ptr(), ads.len());
     unsafe {
         match request {
             Request::Read { tab } => {
-                propolisk_tool_read(memory, ads, six, adp, *tab, frame, room, octets, wake, ended)
+                propolisk_tool_read(memory, ads, six, adp, *tab, frame, room, length, wake, ended)
             }
             Request::Transfer { tab, data } => {
                 let (data, count) = (data.as_ptr(), data.len());
                 propolisk_tool_transfer(
-                    memory, ads, six, adp, *tab, data, count, frame, room, octets, wake, ended,
+                    memory, ads, six, adp, *tab, data, count, frame, room, length, wake, ended,
                 )
             }
             Request::Program { tab, data, key, na1 } => {
@@ -132,17 +132,17 @@ pub fn request(
                 let (na1, na1_count) = (na1.as_ptr(), na1.len());
                 propolisk_tool_program(
                     memory, ads, six, adp, *tab, data, count, key, key_count, na1, na1_count, frame, room,
-                    octets, wake, ended,
+                    length, wake, ended,
                 )
             }
             Request::Broadcast { tab, data } => {
                 let (data, count) = (data.as_ptr(), data.len());
                 propolisk_tool_broadcast(
-                    memory, ads, six, adp, *tab, data, count, frame, room, octets, wake, ended,
+                    memory, ads, six, adp, *tab, data, count, frame, room, length, wake, ended,
                 )
             }
             Request::Initialise => {
-                propolisk_tool_initialise(memory, ads, six, adp, frame, room, octets, wake, ended)
+                propolisk_tool_initialise(memory, ads, six, adp, frame, room, length, wake, ended)
             }
         }
     }
@@ -158,7 +158,7 @@ pub fn octet(memory: &mut Lent, octet: u8, frame: &mut Lent, cells: &mut Cells, 
             octet,
             frame.pointer(),
             room,
-            &mut cells.octets,
+            &mut cells.length,
             &mut cells.ended,
             data.pointer(),
             &mut cells.count,

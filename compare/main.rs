@@ -35,6 +35,7 @@ mod report;
 mod rng;
 mod swap;
 mod tool;
+mod tool_host;
 mod utf8;
 mod vectors;
 mod wire;

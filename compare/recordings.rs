@@ -7,6 +7,7 @@ use crate::des;
 use crate::encoding::{self, Given};
 use crate::frame::{Address, Body, Frame};
 use crate::record::{Record, LABEL, RAW};
+use crate::tool_host;
 use crate::utf8::{self, Characters, Fit, Octets};
 
 const TAB: u8 = 0x0A;
@@ -16,6 +17,7 @@ pub fn of(program: &str) -> Option<Vec<u8>> {
     match program {
         "cardlog" => Some(cardlog()),
         "card_host" => Some(card_host::printed().into_bytes()),
+        "tool_host" => Some(tool_host::printed().into_bytes()),
         "fit" => Some(fit()),
         _ => None,
     }

@@ -323,8 +323,8 @@ fn added(record: Record) -> Added {
     Added { ads: record.ads, tab: record.tab, kind: record.kind, data: record.data }
 }
 
-/// Records in any order; an accepted list is the sorted list, and the writer takes it. Then forged lists, and
-/// lists up to each limit.
+/// Records in any order; an accepted list is the sorted list, and the writer takes it. Then lists that no call
+/// gave, and lists up to each limit.
 pub fn listing(rng: &mut Rng, cases: usize) -> Result<usize, Disagreement> {
     let mut tried = 0;
     while tried < cases {
@@ -344,7 +344,7 @@ pub fn listing(rng: &mut Rng, cases: usize) -> Result<usize, Disagreement> {
         same(list.heads.octets().starts_with(&heads), true, || "heads in order".into())?;
         write_case(&heads, &contents, &[0; 4_096])?;
     }
-    tried += forged(rng)?;
+    tried += lists_of_no_call(rng)?;
     for (records, offset) in [(rising(4_096, 0), 0), (full(), 65_536)] {
         tried += up_to(rng, records, offset)?;
     }
@@ -352,7 +352,7 @@ pub fn listing(rng: &mut Rng, cases: usize) -> Result<usize, Disagreement> {
 }
 
 /// Counts that the arrays cannot hold, heads that do not fit the data, and data that no array holds.
-fn forged(rng: &mut Rng) -> Result<usize, Disagreement> {
+fn lists_of_no_call(rng: &mut Rng) -> Result<usize, Disagreement> {
     let cases = 400;
     for _ in 0..cases {
         let (mut heads, mut contents) = as_lent(&records(rng));

@@ -21,7 +21,7 @@ const LAST: usize = 126;
 const RECEIVER: usize = 134;
 
 /// What every cell and lent octet holds before a call, so that a write is seen.
-const CELLS: Cells = Cells { octets: 777, wake: 7, ended: 7, count: 777 };
+const CELLS: Cells = Cells { length: 777, wake: 7, ended: 7, count: 777 };
 
 /// 01, The card (12), read off the octets of a tool memory.
 fn sound(memory: &[u8]) -> bool {
@@ -126,10 +126,10 @@ impl Pair {
 
 /// The number of an outcome, and the cells where it has none.
 fn told(outcome: &Outcome) -> (Number, Cells) {
-    let cells = |octets, ended, count| Cells { octets, wake: CELLS.wake, ended, count };
+    let cells = |length, ended, count| Cells { length, wake: CELLS.wake, ended, count };
     match outcome {
         Outcome::Nothing => (0, cells(0, 0, 0)),
-        Outcome::Authenticate(octets) => (0, cells(*octets, 0, 0)),
+        Outcome::Authenticate(length) => (0, cells(*length, 0, 0)),
         Outcome::Done(data) => (0, cells(0, 1, data.as_ref().map_or(0, Vec::len))),
         Outcome::Refused(number) | Outcome::Dropped(number) | Outcome::Failed(number) => (*number, CELLS),
     }
@@ -143,7 +143,7 @@ impl Primary for Pair {
         let begun = self.model.request(ads, adp, request, buffer);
         let done = matches!(request, Request::Broadcast { .. } | Request::Initialise);
         let cells = begun.map_or(CELLS, |begun| Cells {
-            octets: begun.length,
+            length: begun.length,
             wake: begun.wake_up as u8,
             ended: done as u8,
             ..CELLS

@@ -12,7 +12,7 @@
  *  - Gap: report one when TAO (40 ms, IEC 62056-3-1:2021, Table 2) passes without an octet after an octet was received. It ends a frame.
  *  - Session end: report one when TA10 (Table 2) passes without the first octet of a frame, which is where Table 6 ends the session of an
  *    energized station. A waiting programming exchange is then over.
- *  - With EVERY octet a fresh number of 8 octets is lent that nobody can foretell (Annex G: numbers differ from each other in more than 4 bits
+ *  - With EVERY octet a fresh number NA2 of 8 octets is lent that nobody can foretell (Annex G: numbers differ from each other in more than 4 bits
  *    over 400 of them, each bit is 0 about as often as 1). The card uses the one lent with the last octet of a REC. If a number comes again,
  *    whoever heard the exchange in which it was used can play that AUT again, and the card will take it for the key's owner. The card tests
  *    the number's length and nothing else.
@@ -27,7 +27,7 @@
  * A refusal writes nothing to memory but, where the rules of the bus say so, the receiver and the mark of the waiting exchange.
  *
  * Stack, measured in octets below the caller: setup 22,632, step_octet 56,808, step_gap 28,248, step_session_end 33,624, meter_write 33,352,
- * read 33,144 (examples/card_stack.c). The card's records are taken out of the memory whole for each call, which is where the stack goes.
+ * read 33,144 (examples/call_stack.c). The card's records are taken out of the memory whole for each call, which is where the stack goes.
  * Nothing is allocated elsewhere.
  *
  * The archive is for x86-64 Linux today, since that is what `rt staticlib` compiles for. A board of another kind needs a kit that compiles for
@@ -73,17 +73,17 @@
 uint8_t propolisk_card_setup(uint8_t *memory, size_t room, const uint8_t *address, size_t address_count, const uint8_t *key,
                              size_t key_count, uint8_t count, const uint8_t entries[PROPOLISK_CARD_ENTRIES]);
 
-/* An octet came over the bus. The number has 8 octets and is lent anew with every octet (see above); the reply buffer has 128 octets or more.
+/* An octet came over the bus. NA2 is the number of 8 octets that is lent anew with every octet (see above); the reply buffer has 128 octets or more.
  * *length is always written: the length of the reply that now stands at the front of the reply buffer, or 0. Octets past the reply are kept.
  *  0: the octet was taken in; where *length is not 0 it completed a frame that has a reply (DAT, ECH, EOS, TRA).
- * 17: the memory is too short, the number has not 8 octets, or the reply buffer has not 128; tested with every octet, also inside a frame.
+ * 17: the memory is too short, NA2 has not 8 octets, or the reply buffer has not 128; tested with every octet, also inside a frame.
  * 12: see above.
  *  1: N is under 11 or over 128; octets are now passed over until a gap or a session end.
  *  2, 4, 5: the frame is complete and bad: wrong CRC, unknown command, a length that its command cannot have. It is dropped.
  * 10, 11: no such record, or it is not readable or not open to this command. 7, 8, 9: the data is not acceptable, as in setup. 13: the cipher
  *     or the primary station is not the waiting exchange's. No record is changed. DRJ (10, 11, 7, 8, 9), or ARJ (13), stands in the reply
  *     buffer all the same; TRB has no reply. Any waiting exchange is over: its mark is cleared, and its octets stay. */
-uint8_t propolisk_card_step_octet(uint8_t *memory, size_t room, uint8_t octet, const uint8_t *number, size_t number_count,
+uint8_t propolisk_card_step_octet(uint8_t *memory, size_t room, uint8_t octet, const uint8_t *na2, size_t na2_count,
                                   uint8_t *reply, size_t reply_room, size_t *length);
 
 /* A gap on the bus: TAO has passed (see above). 0: no frame was cut.   3: a frame was cut, and is dropped.   17, 12: see above. */

@@ -20,18 +20,18 @@
  * the frame buffer, octets past a frame are kept.
  *
  * What the host does:
- * - It sends a request's frame, the first *octets octets of the frame buffer, after an AGN wake-up call where *wake is 1.
+ * - It sends a request's frame, the first *length octets of the frame buffer, after an AGN wake-up call where *wake is 1.
  * - It hands over each octet that comes from the bus, and no octet that it sends itself: its own frame, heard back, is a good frame from that
  *   station for that ADP that no request expects, and ends the request with 19.
  * - It reports a gap when TAO ends after an octet (IEC 62056-3-1, Table 1: 40 ms, "whose expiry indicates the end of a frame").
  * - It reports a session end when its own waiting time for a reply ends with no first octet: TA10 of the physical layer (Table 1) or T1 of
  *   the data link layer. A session end does not reset the wake-up rule.
- * - Where *octets is not 0 after an octet, it sends those octets: AUT, without a wake-up call.
+ * - Where *length is not 0 after an octet, it sends those octets: AUT, without a wake-up call.
  * - It fits a label for a record with propolisk_label_fit (propolisk_leaf.h) before it programs or transfers it: octet counts and character
  *   counts never stand in for each other.
  *
- * Stack, measured on x86-64 Linux with a painted stack: 2,976 octets for a programming request, less for the other requests; 2,736 for the
- * octet that completes an ECH, 2,496 for the one that completes a DAT of 116 octets; 1,240 for a gap. */
+ * Stack, measured in octets below the caller (examples/call_stack.c): program 2,992, octet 2,752, the other requests under 2,500, gap and
+ * session_end under 1,300, new 256 or less. */
 #ifndef PROPOLISK_TOOL_H
 #define PROPOLISK_TOOL_H
 
@@ -39,43 +39,45 @@
 #include <stdint.h>
 
 #define PROPOLISK_TOOL_MEMORY 263
+/* Octets of stack that a call needs at most, as measured. */
+#define PROPOLISK_TOOL_STACK 3072
 
 /* Writes a fresh tool: no request runs, the receiver is empty, and there was no request yet. What the memory held is not looked at. */
 void propolisk_tool_new(uint8_t memory[PROPOLISK_TOOL_MEMORY]);
 
-/* Requests. 0: *octets is the frame's whole length, *wake is 1 where an AGN wake-up goes before it, and *ended is 1 where the request is done
+/* Requests. 0: *length is the frame's whole length, *wake is 1 where an AGN wake-up goes before it, and *ended is 1 where the request is done
  * once sent (broadcast and initialise), 0 where a reply is awaited. */
 
 /* Reads a record: ENQ. */
 uint8_t propolisk_tool_read(uint8_t memory[PROPOLISK_TOOL_MEMORY], const uint8_t *ads, size_t ads_count, uint8_t adp, uint8_t tab,
-                            uint8_t *frame, size_t room, size_t *octets, uint8_t *wake, uint8_t *ended);
+                            uint8_t *frame, size_t room, size_t *length, uint8_t *wake, uint8_t *ended);
 
 /* Writes a record by transfer: TRF, at most 116 octets of DATA. */
 uint8_t propolisk_tool_transfer(uint8_t memory[PROPOLISK_TOOL_MEMORY], const uint8_t *ads, size_t ads_count, uint8_t adp, uint8_t tab,
-                                const uint8_t *data, size_t data_count, uint8_t *frame, size_t room, size_t *octets, uint8_t *wake,
+                                const uint8_t *data, size_t data_count, uint8_t *frame, size_t room, size_t *length, uint8_t *wake,
                                 uint8_t *ended);
 
 /* Writes a record by remote programming: REC, at most 100 octets of DATA; AUT follows when the right ECH has come. The key and the random
  * number NA1 are of 8 octets each; the memory keeps them. */
 uint8_t propolisk_tool_program(uint8_t memory[PROPOLISK_TOOL_MEMORY], const uint8_t *ads, size_t ads_count, uint8_t adp, uint8_t tab,
                                const uint8_t *data, size_t data_count, const uint8_t *key, size_t key_count, const uint8_t *na1,
-                               size_t na1_count, uint8_t *frame, size_t room, size_t *octets, uint8_t *wake, uint8_t *ended);
+                               size_t na1_count, uint8_t *frame, size_t room, size_t *length, uint8_t *wake, uint8_t *ended);
 
 /* Writes a record of every station: TRB, at most 116 octets of DATA, to the broadcast address 000000000000. */
 uint8_t propolisk_tool_broadcast(uint8_t memory[PROPOLISK_TOOL_MEMORY], const uint8_t *ads, size_t ads_count, uint8_t adp, uint8_t tab,
-                                 const uint8_t *data, size_t data_count, uint8_t *frame, size_t room, size_t *octets, uint8_t *wake,
+                                 const uint8_t *data, size_t data_count, uint8_t *frame, size_t room, size_t *length, uint8_t *wake,
                                  uint8_t *ended);
 
 /* Initialises the bus: IB, to the broadcast address. */
 uint8_t propolisk_tool_initialise(uint8_t memory[PROPOLISK_TOOL_MEMORY], const uint8_t *ads, size_t ads_count, uint8_t adp,
-                                  uint8_t *frame, size_t room, size_t *octets, uint8_t *wake, uint8_t *ended);
+                                  uint8_t *frame, size_t room, size_t *length, uint8_t *wake, uint8_t *ended);
 
 /* Events. */
 
-/* An octet from the bus. 0: *octets is the length of the AUT to send, or 0 where nothing is to be sent; *ended is 1 where the request has ended
+/* An octet from the bus. 0: *length is the length of the AUT to send, or 0 where nothing is to be sent; *ended is 1 where the request has ended
  * well; the DATA of a reading that has ended well are the first *count octets of `data`, whose other octets are kept, and *count is 0
  * otherwise. A number of 13, 14, 19 or 20 says that the request has ended without success. */
-uint8_t propolisk_tool_octet(uint8_t memory[PROPOLISK_TOOL_MEMORY], uint8_t octet, uint8_t *frame, size_t room, size_t *octets,
+uint8_t propolisk_tool_octet(uint8_t memory[PROPOLISK_TOOL_MEMORY], uint8_t octet, uint8_t *frame, size_t room, size_t *length,
                              uint8_t *ended, uint8_t data[116], size_t *count);
 
 /* A gap on the bus. 3: it was inside a frame, which is dropped. */
