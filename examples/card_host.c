@@ -4,6 +4,7 @@
  *   rt staticlib card_exports && rt staticlib frame_exports && rt staticlib leaf_exports
  *   cc -Iinclude examples/card_host.c -Ltarget/staticlib -lcard_exports -lframe_exports -lleaf_exports -o target/card_host
  */
+#include "fresh_number.h"
 #include "propolisk_card.h"
 #include "propolisk_frame.h"
 #include "propolisk_leaf.h"
@@ -43,17 +44,6 @@ static void print_frame(const char *way, const uint8_t *frame, size_t count)
     printf("  %s %s ", way, name_of(frame[8]));
     print_octets(frame, count);
     printf("\n");
-}
-
-/* The number lent with each octet. A board takes it from its random generator; here it is a count, enciphered, so that each run prints the same. */
-static void fresh_number(uint8_t number[8])
-{
-    static const uint8_t secret[8] = {0x5A, 0x6F, 0xC3, 0xA9, 0x10, 0x32, 0x54, 0x76};
-    static uint64_t count;
-    count++;
-    for (int i = 0; i < 8; i++)
-        number[i] = (uint8_t)(count >> (56 - 8 * i));
-    propolisk_des_encipher(secret, number);
 }
 
 /* The board hears a frame octet by octet, then the gap after it, and sends the card's reply. */

@@ -4,6 +4,7 @@
  *   for archive in tool_exports swap_exports card_exports leaf_exports; do rt staticlib $archive; done
  *   cc -Iinclude examples/tool_host.c -Ltarget/staticlib -ltool_exports -lswap_exports -lcard_exports -lleaf_exports -o target/tool_host
  */
+#include "fresh_number.h"
 #include "propolisk_card.h"
 #include "propolisk_leaf.h"
 #include "propolisk_swap.h"
@@ -41,18 +42,6 @@ static void print_octets(const char *before, const uint8_t *octets, size_t count
     for (size_t i = 0; i < count; i++)
         printf("%02X", octets[i]);
     printf("\n");
-}
-
-/* The tool's and the card's random numbers. A program takes them from a random generator; here they are a count, enciphered, so that each run
- * prints the same. */
-static void fresh_number(uint8_t number[8])
-{
-    static const uint8_t secret[8] = {0x5A, 0x6F, 0xC3, 0xA9, 0x10, 0x32, 0x54, 0x76};
-    static uint64_t count;
-    count++;
-    for (int i = 0; i < 8; i++)
-        number[i] = (uint8_t)(count >> (56 - 8 * i));
-    propolisk_des_encipher(secret, number);
 }
 
 /* The card hears a frame and the gap after it; gives the length of its reply. */
