@@ -3,9 +3,11 @@ use mathlib.Core.Path.{_≡_}
 use mathlib.Core.List.{List, [], _∷_}
 use Prim.Native.Nat.{ℕ}
 use lib.ListN.{replicate}
-use Rattle.label.specs.declared.Octets.{Octets}
-use Rattle.label.specs.declared.Characters.{Characters}
-use Rattle.label.specs.Fitting.{Answer, given, refused, fitOf, inOctets, inCharacters}
+use Rattle.numbers.specs.declared.Octets.{Octets}
+use Rattle.numbers.specs.declared.Characters.{Characters}
+use Rattle.numbers.specs.Counts.{inOctets, inCharacters}
+use Rattle.numbers.specs.Answer.{Answer, given, refusedAt}
+use Rattle.label.specs.Fitting.{fitOf}
 use Rattle.frame.specs.declared.codes.Command.{Command}
 use Rattle.frame.specs.declared.codes.Command.the-variants.{Rec, Trf}
 use Rattle.frame.specs.declared.builder.Built.{Built}
@@ -53,7 +55,7 @@ kept octets characters = given (inOctets octets, inCharacters characters)
 
 -- 8 with the offset
 abbrev pub illFormedAt : ℕ → Answer (Octets × Characters)
-illFormedAt offset = refused 8 (inOctets offset)
+illFormedAt offset = refusedAt 8 (inOctets offset)
 
 -- `E2 82 AC` names no character limit in 01: 9, as the rows before it
 abbrev pub rows : List Row
@@ -72,4 +74,4 @@ rows =
     fits (0xED ∷ 0xA0 ∷ 0x80 ∷ []) 116 116 (illFormedAt 0) ∷
     fits (0xF4 ∷ 0x90 ∷ 0x80 ∷ 0x80 ∷ []) 116 116 (illFormedAt 0) ∷
     encodes 4096 (0x80 ∷ 0x20 ∷ []) ∷
-    judges (0x81 ∷ 0x00 ∷ []) (refused 18 (inOctets 0)) ∷ []
+    judges (0x81 ∷ 0x00 ∷ []) (refusedAt 18 (inOctets 0)) ∷ []

@@ -12,7 +12,7 @@ use Rattle.frame.specs.declared.codes.Command.{Command}
 use Rattle.frame.specs.declared.codes.Command.the-variants.{Enq, Dat, Rec, Ech, Aut, Eos, Aso, Rso, Ib, Drj, Arj, Trf, Trb, Tra, Pre, Sel}
 use Rattle.frame.specs.declared.content.Fields.{Fields}
 use Rattle.frame.specs.Codes.{codeOf}
-use Rattle.frame.specs.Building.{octetsOf}
+use Rattle.frame.specs.Building.{frameOctets}
 use Rattle.records.specs.declared.Access.{Access}
 use Rattle.records.specs.declared.Access.the-variants.{Programming, Transfer}
 use Rattle.records.specs.declared.Found.{Found}
@@ -74,12 +74,12 @@ acknowledgement WrongLength granted = Drj
 -- "A reply carries the ADS and ADP of the frame it answers": f are that frame's fields, here and below.
 unfoldable pub settled : Card → Access → ℕ → List ℕ → Command → Fields → Response
 settled c access t d granted f =
-    responding (written c access t d .card) (written c access t d .answer) (octetsOf (acknowledgement (written c access t d .answer) granted) f [])
+    responding (written c access t d .card) (written c access t d .answer) (frameOctets (acknowledgement (written c access t d .answer) granted) f [])
 
 -- "ENQ: the reply is DAT with the record, or the negative answer of 4.4.2 if it is missing (10) or not readable (11)."
 unfoldable pub enqFor : Found → Card → Fields → Response
-enqFor (found.At i) c f = responding (idle c) Nothing (octetsOf Dat f (contents (recordAt (c .records) i)))
-enqFor (found.Refused refusal) c f = responding (idle c) (numbered (Refused refusal) (refusalNumber refusal) refl) (octetsOf Drj f [])
+enqFor (found.At i) c f = responding (idle c) Nothing (frameOctets Dat f (contents (recordAt (c .records) i)))
+enqFor (found.Refused refusal) c f = responding (idle c) (numbered (Refused refusal) (refusalNumber refusal) refl) (frameOctets Drj f [])
 
 unfoldable pub onEnq : Card → Fields → Response
 onEnq c f = enqFor (findReadable (attributesOf (c .records)) (f .tab)) c f
@@ -100,11 +100,11 @@ waitingFor c number f d =
 -- "ECH with ZA1 = DES(Ki, NA1), ZA2 = NA2, TAB and DATA echoed"
 abbrev pub echo : List ℕ → List ℕ → Fields → Fields
 echo key number f =
-    record { ads = f .ads; adp = f .adp; za1 = encipher key (f .za1); za2 = number; tab = f .tab; station = f .station }
+    record { ads = f .ads; adp = f .adp; za1 = encipher key (f .za1); za2 = number; tab = f .tab; announced = f .announced }
 
 -- "REC: the reply is ECH .. Data is not judged yet."
 unfoldable pub onRec : Card → List ℕ → Fields → List ℕ → Response
-onRec c number f d = responding (waitingFor c number f d) Nothing (octetsOf Ech (echo (c .key) number f) d)
+onRec c number f d = responding (waitingFor c number f d) Nothing (frameOctets Ech (echo (c .key) number f) d)
 
 -- "if its ADP isn't the REC's or ZA2 isn't DES(Ki, NA2), ARJ (13)"
 unfoldable pub authentic : List ℕ → List ℕ → ℕ → Fields → Bool
@@ -115,7 +115,7 @@ unfoldable pub autIn : Phase → Card → Fields → Response
 autIn Idle c f = silent c
 autIn (Waiting adp tab n) c f =
     cond (authentic (c .key) (c .na2) adp f) (settled (idle c) Programming tab (take (n .0) (c .waiting)) Eos f)
-    (responding (idle c) (numbered WrongCipher 13 refl) (octetsOf Arj f []))
+    (responding (idle c) (numbered WrongCipher 13 refl) (frameOctets Arj f []))
 
 unfoldable pub onAut : Card → Fields → Response
 onAut c f = autIn (c .phase) c f

@@ -5,7 +5,7 @@ ghost use mathlib.Core.List.{[]};
 ghost use Prim.Native.Nat.{_≤_};
 ghost use lib.ListN.{length};
 ghost use Rattle.frame.specs.Layout.{layoutOf, within};
-ghost use Rattle.frame.specs.Building.{octetsOf, Sends};
+ghost use Rattle.frame.specs.Building.{frameOctets, Sends};
 ghost use Rattle.records.specs.Judging.{contents};
 ghost use Rattle.card.specs.Soundness.{Sound};
 ghost use Rattle.frame.specs.declared.codes.Command.the-variants.{Dat, Rec};
@@ -20,7 +20,7 @@ use crate::sound::broadcast;
 use frame::Built;
 use frame::Command;
 use frame::Fields;
-use label::Octets;
+use numbers::Octets;
 use records::Access;
 use records::Found;
 use records::Record;
@@ -33,7 +33,7 @@ pub(crate) struct Lent {
 // A frame over the front of a buffer that holds it, and its length.
 fn send(reply: &mut [u8], command: Command, fields: Fields, data: &[u8]) -> Octets
     requires { ⌜ (128 ≤ length (now reply)) × (within (layoutOf command) (length (now «data»)) ≡ true) ⌝ }
-    ensures { λ r. ⌜ Sends (octetsOf command fields (now («data» .entry))) (now (reply .entry)) (now (reply .exit)) r ⌝ }
+    ensures { λ r. ⌜ Sends (frameOctets command fields (now («data» .entry))) (now (reply .entry)) (now (reply .exit)) r ⌝ }
 {
     let built = frame::build(reply, command, fields, data);
     match built {
@@ -45,7 +45,7 @@ fn send(reply: &mut [u8], command: Command, fields: Fields, data: &[u8]) -> Octe
 // A frame without DATA.
 fn send_bare(reply: &mut [u8], command: Command, fields: Fields) -> Octets
     requires { ⌜ (128 ≤ length (now reply)) × (within (layoutOf command) 0 ≡ true) ⌝ }
-    ensures { λ r. ⌜ Sends (octetsOf command fields []) (now (reply .entry)) (now (reply .exit)) r ⌝ }
+    ensures { λ r. ⌜ Sends (frameOctets command fields []) (now (reply .entry)) (now (reply .exit)) r ⌝ }
 {
     send(reply, command, fields, &[])
 }
@@ -53,7 +53,7 @@ fn send_bare(reply: &mut [u8], command: Command, fields: Fields) -> Octets
 // DAT with the contents of a record.
 fn send_record(reply: &mut [u8], fields: Fields, stored: Record) -> Octets
     requires { ⌜ (128 ≤ length (now reply)) × (stored .length .0 ≤ 116) ⌝ }
-    ensures { λ r. ⌜ Sends (octetsOf Dat fields (contents stored)) (now (reply .entry)) (now (reply .exit)) r ⌝ }
+    ensures { λ r. ⌜ Sends (frameOctets Dat fields (contents stored)) (now (reply .entry)) (now (reply .exit)) r ⌝ }
 {
     let storage = stored.storage;
     let length = stored.length;

@@ -10,7 +10,7 @@ mod sound;
 
 use frame::Fault;
 use frame::checks::fault_number;
-use label::Octets;
+use numbers::Octets;
 use receiver::Receiver;
 use records::Records;
 use records::Refusal;

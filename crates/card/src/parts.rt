@@ -7,7 +7,7 @@ use crate::Answered;
 use crate::Card;
 use crate::Phase;
 use crate::Stepped;
-use label::Octets;
+use numbers::Octets;
 use receiver::Receiver;
 use records::Records;
 

@@ -2,8 +2,8 @@
 ghost use Prim.Native.Nat.{_≤_, _<_};
 use card::Answered;
 use card::Card;
-use label::Characters;
-use label::Octets;
+use numbers::Characters;
+use numbers::Octets;
 use records::Attributes;
 use records::Kind;
 use records::Record;

@@ -4,7 +4,7 @@ use crate::numbers::print_tool;
 use crate::wire::Sent;
 use crate::wire::TOOL;
 use crate::wire::silence;
-use label::Octets;
+use numbers::Octets;
 use tool::Answer;
 use tool::Contents;
 use tool::Requested;

@@ -2,8 +2,8 @@
 ghost use Prim.Native.Nat.{_≤_, _<_};
 ghost use lib.ListN.{length};
 use card::Card;
-use label::Characters;
-use label::Octets;
+use numbers::Characters;
+use numbers::Octets;
 use records::Attributes;
 use records::Kind;
 use records::Record;

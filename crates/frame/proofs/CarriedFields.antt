@@ -9,7 +9,7 @@ use Rattle.frame.specs.declared.layout.Presence.the-variants.{Absent, Ze
 use Rattle.frame.specs.declared.content.Fields.{Fields}
 use Rattle.frame.specs.Layout.{layoutOf, placesOf}
 use Rattle.frame.specs.Content.{onWire, valueAt, octetAt, kept, keptOctet, fieldsOf, carried}
-use Rattle.frame.specs.Building.{fixedOf, bodyOf, octetsOf}
+use Rattle.frame.specs.Building.{fixedOf, bodyOf, frameOctets}
 
 zeros-again : (n : ℕ) → replicate {A = ℕ} (length (replicate {A = ℕ} n 0)) 0 ≡ replicate n 0
 zeros-again n = ap (λ (k : ℕ). replicate {A = ℕ} k 0) (length-replicate n 0)
@@ -35,7 +35,7 @@ fields-carried c s =
       kept-value (l .za1) 8 s 9,
       kept-value (l .za2) 8 s (p .za2),
       kept-octet (l .tab) s (p .tab),
-      kept-value (l .station) 6 s (p .station),
+      kept-value (l .announced) 6 s (p .announced),
     )
 
 wire-kept : (p : Presence) (v : List ℕ) → onWire p (kept p v) ≡ onWire p v
@@ -50,13 +50,13 @@ wire-kept-octet Absent x = refl
 wire-kept-octet Zero x = refl
 wire-kept-octet Carried x = refl
 
-pub octets-carried : (c : Command) (f : Fields) (d : List ℕ) → octetsOf c (carried c f) d ≡ octetsOf c f d
-unfolding octetsOf bodyOf fixedOf carried
+pub octets-carried : (c : Command) (f : Fields) (d : List ℕ) → frameOctets c (carried c f) d ≡ frameOctets c f d
+unfolding frameOctets bodyOf fixedOf carried
 octets-carried c f d =
     let l = layoutOf c in
     rw (
       wire-kept (l .za1) (f .za1),
       wire-kept (l .za2) (f .za2),
       wire-kept-octet (l .tab) (f .tab),
-      wire-kept (l .station) (f .station),
+      wire-kept (l .announced) (f .announced),
     )

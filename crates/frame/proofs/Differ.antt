@@ -21,39 +21,39 @@ use Rattle.frame.proofs.OneField.{value-agrees, octet-agrees, zero-not-
 -- offsets outside the zero fields: the head, each field that carries a value, and DATA
 module _ (l : Layout) (i : ℕ) where
   none : inZero (l .za1) 8 9 i ≡ false → inZero (l .za2) 8 (placesOf l .za2) i ≡ false → inZero (l .tab) 1 (placesOf l .tab) i ≡ false
-      → inZero (l .station) 6 (placesOf l .station) i ≡ false → inZeroField l i ≡ false
+      → inZero (l .announced) 6 (placesOf l .announced) i ≡ false → inZeroField l i ≡ false
   unfolding inZeroField
   none a b c d = rw (a, b, c, d)
 
   head-free : i < 9 → inZeroField l i ≡ false
   head-free h =
       none (zero-not-before (l .za1) 8 9 i h) (zero-not-before (l .za2) 8 (placesOf l .za2) i (omega arith))
-      (zero-not-before (l .tab) 1 (placesOf l .tab) i (omega arith)) (zero-not-before (l .station) 6 (placesOf l .station) i (omega arith))
+      (zero-not-before (l .tab) 1 (placesOf l .tab) i (omega arith)) (zero-not-before (l .announced) 6 (placesOf l .announced) i (omega arith))
 
   za1-free : l .za1 ≡ Carried → i < placesOf l .za2 → inZeroField l i ≡ false
   za1-free e h =
       none (zero-not-carried (l .za1) 8 9 i e) (zero-not-before (l .za2) 8 (placesOf l .za2) i h)
-      (zero-not-before (l .tab) 1 (placesOf l .tab) i (omega arith)) (zero-not-before (l .station) 6 (placesOf l .station) i (omega arith))
+      (zero-not-before (l .tab) 1 (placesOf l .tab) i (omega arith)) (zero-not-before (l .announced) 6 (placesOf l .announced) i (omega arith))
 
   za2-free : l .za2 ≡ Carried → placesOf l .za2 ≤ i → i < placesOf l .tab → inZeroField l i ≡ false
   za2-free e a h =
       none (zero-not-after (l .za1) 8 9 i a) (zero-not-carried (l .za2) 8 (placesOf l .za2) i e)
-      (zero-not-before (l .tab) 1 (placesOf l .tab) i h) (zero-not-before (l .station) 6 (placesOf l .station) i (omega arith))
+      (zero-not-before (l .tab) 1 (placesOf l .tab) i h) (zero-not-before (l .announced) 6 (placesOf l .announced) i (omega arith))
 
-  tab-free : l .tab ≡ Carried → placesOf l .tab ≤ i → i < placesOf l .station → inZeroField l i ≡ false
+  tab-free : l .tab ≡ Carried → placesOf l .tab ≤ i → i < placesOf l .announced → inZeroField l i ≡ false
   tab-free e a h =
       none (zero-not-after (l .za1) 8 9 i (omega arith)) (zero-not-after (l .za2) 8 (placesOf l .za2) i a)
-      (zero-not-carried (l .tab) 1 (placesOf l .tab) i e) (zero-not-before (l .station) 6 (placesOf l .station) i h)
+      (zero-not-carried (l .tab) 1 (placesOf l .tab) i e) (zero-not-before (l .announced) 6 (placesOf l .announced) i h)
 
-  station-free : l .station ≡ Carried → placesOf l .station ≤ i → inZeroField l i ≡ false
+  station-free : l .announced ≡ Carried → placesOf l .announced ≤ i → inZeroField l i ≡ false
   station-free e a =
       none (zero-not-after (l .za1) 8 9 i (omega arith)) (zero-not-after (l .za2) 8 (placesOf l .za2) i (omega arith))
-      (zero-not-after (l .tab) 1 (placesOf l .tab) i a) (zero-not-carried (l .station) 6 (placesOf l .station) i e)
+      (zero-not-after (l .tab) 1 (placesOf l .tab) i a) (zero-not-carried (l .announced) 6 (placesOf l .announced) i e)
 
   data-free : placesOf l .content ≤ i → inZeroField l i ≡ false
   data-free a =
       none (zero-not-after (l .za1) 8 9 i (omega arith)) (zero-not-after (l .za2) 8 (placesOf l .za2) i (omega arith))
-      (zero-not-after (l .tab) 1 (placesOf l .tab) i (omega arith)) (zero-not-after (l .station) 6 (placesOf l .station) i a)
+      (zero-not-after (l .tab) 1 (placesOf l .tab) i (omega arith)) (zero-not-after (l .announced) 6 (placesOf l .announced) i a)
 
 -- where s and t agree outside the zero fields and the CRC
 module _ (c : Command) (s t : List ℕ) (room : placesOf (layoutOf c) .content + 2 ≤ length s) (same-length : length s ≡ length t)
@@ -67,8 +67,8 @@ module _ (c : Command) (s t : List ℕ) (room : placesOf (layoutOf c) .content +
       let za1 = value-agrees (l .za1) 8 s t 9 same-length (λ e i a b. let w : width (l .za1) 8 ≡ 8 = rw e in same i (omega arith) (za1-free l i e (omega arith))) in
       let za2 = value-agrees (l .za2) 8 s t (p .za2) same-length (λ e i a b. let w : width (l .za2) 8 ≡ 8 = rw e in same i (omega arith) (za2-free l i e a (omega arith))) in
       let tab = octet-agrees (l .tab) s t (p .tab) (λ e. let w : width (l .tab) 1 ≡ 1 = rw e in same (p .tab) (omega arith) (tab-free l (p .tab) e (omega arith) (omega arith))) in
-      let station = value-agrees (l .station) 6 s t (p .station) same-length (λ e i a b. let w : width (l .station) 6 ≡ 6 = rw e in same i (omega arith) (station-free l i e a)) in
-      rw (ads, same 7 (omega arith) (head-free l 7 (omega arith)), za1, za2, tab, station)
+      let announced = value-agrees (l .announced) 6 s t (p .announced) same-length (λ e i a b. let w : width (l .announced) 6 ≡ 6 = rw e in same i (omega arith) (station-free l i e a)) in
+      rw (ads, same 7 (omega arith) (head-free l 7 (omega arith)), za1, za2, tab, announced)
 
   data-same : dataOf c s ≡ dataOf c t
   unfolding dataOf

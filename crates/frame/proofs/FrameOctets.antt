@@ -18,7 +18,7 @@ use Rattle.frame.specs.declared.content.Fields.{Fields}
 use Rattle.frame.specs.Codes.{codeOf}
 use Rattle.frame.specs.Layout.{layoutOf, wholeLength, within}
 use Rattle.frame.specs.Content.{Shaped, onWire}
-use Rattle.frame.specs.Building.{headOf, fixedOf, bodyOf, octetsOf}
+use Rattle.frame.specs.Building.{headOf, fixedOf, bodyOf, frameOctets}
 use Rattle.frame.proofs.Widths.{limits, within-bounds}
 
 some : 0 < 256
@@ -71,14 +71,14 @@ fixed-octets l f long =
     let za1 = onWire (l .za1) (f .za1) in
     let za2 = onWire (l .za2) (f .za2) in
     let tab = onWire (l .tab) (f .tab ∷ []) in
-    let station = onWire (l .station) (f .station) in
+    let announced = onWire (l .announced) (f .announced) in
     let one = below-cons 256 some (f .tab) [] (long .tab-octet) (below-nil 256 some) in
-    joined za1 (za2 ++ (tab ++ station)) (wire-octets (l .za1) (f .za1) (long .za1-octets))
-    (joined za2 (tab ++ station) (wire-octets (l .za2) (f .za2) (long .za2-octets))
-    (joined tab station (wire-octets (l .tab) (f .tab ∷ []) one) (wire-octets (l .station) (f .station) (long .station-octets))))
+    joined za1 (za2 ++ (tab ++ announced)) (wire-octets (l .za1) (f .za1) (long .za1-octets))
+    (joined za2 (tab ++ announced) (wire-octets (l .za2) (f .za2) (long .za2-octets))
+    (joined tab announced (wire-octets (l .tab) (f .tab ∷ []) one) (wire-octets (l .announced) (f .announced) (long .station-octets))))
 
-pub frame-octets : (c : Command) (f : Fields) (d : List ℕ) → Shaped f → within (layoutOf c) (length d) ≡ true → Below 256 d → Below 256 (octetsOf c f d)
-unfolding octetsOf bodyOf
+pub frame-octets : (c : Command) (f : Fields) (d : List ℕ) → Shaped f → within (layoutOf c) (length d) ≡ true → Below 256 d → Below 256 (frameOctets c f d)
+unfolding frameOctets bodyOf
 frame-octets c f d long w data-octets =
     let l = layoutOf c in
     let head = headOf (wholeLength l (length d)) (f .ads) (f .adp) (codeOf c) in

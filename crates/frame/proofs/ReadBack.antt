@@ -20,7 +20,7 @@ use Rattle.frame.specs.Codes.{codeOf, commandOf}
 use Rattle.frame.specs.Layout.{layoutOf, width, placesOf, wholeLength, within}
 use Rattle.frame.specs.Content.{Shaped, onWire, valueAt, octetAt, kept, keptOctet, fieldsOf, dataOf, carried}
 use Rattle.frame.specs.Checks.{statedBy, judged, judgedAs, inspected, inspectedAs, readOf, fieldsIn}
-use Rattle.frame.specs.Building.{headOf, fixedOf, bodyOf, octetsOf}
+use Rattle.frame.specs.Building.{headOf, fixedOf, bodyOf, frameOctets}
 use Rattle.frame.proofs.CodeTable.{found}
 use Rattle.frame.proofs.Widths.{limits, can-have, within-bounds}
 use Rattle.frame.proofs.Steps.{inspected-from}
@@ -82,15 +82,15 @@ module _ (c : Command) (f : Fields) (d : List ℕ) (long : Shaped f) where
   abbrev tab : List ℕ
   tab = onWire (layoutOf c .tab) (f .tab ∷ [])
 
-  abbrev station : List ℕ
-  station = onWire (layoutOf c .station) (f .station)
+  abbrev announced : List ℕ
+  announced = onWire (layoutOf c .announced) (f .announced)
 
   abbrev key : List ℕ
   key = keyOctets (bodyOf c f d)
 
-  nested : octetsOf c f d ≡ head ++ (za1 ++ (za2 ++ (tab ++ (station ++ (d ++ key)))))
-  unfolding octetsOf bodyOf fixedOf
-  nested = flat head za1 za2 tab station d key
+  nested : frameOctets c f d ≡ head ++ (za1 ++ (za2 ++ (tab ++ (announced ++ (d ++ key)))))
+  unfolding frameOctets bodyOf fixedOf
+  nested = flat head za1 za2 tab announced d key
 
   nine : length head ≡ 9
   nine = length-head (wholeLength (layoutOf c) (length d)) (f .ads) (f .adp) (codeOf c) (long .ads-long)
@@ -104,77 +104,77 @@ module _ (c : Command) (f : Fields) (d : List ℕ) (long : Shaped f) where
   t1 : length tab ≡ width (layoutOf c .tab) 1
   t1 = length-on-wire (layoutOf c .tab) (f .tab ∷ []) 1 refl
 
-  s1 : length station ≡ width (layoutOf c .station) 6
-  s1 = length-on-wire (layoutOf c .station) (f .station) 6 (long .station-long)
+  s1 : length announced ≡ width (layoutOf c .announced) 6
+  s1 = length-on-wire (layoutOf c .announced) (f .announced) 6 (long .station-long)
 
-  reads-ads : valueAt Carried 6 (octetsOf c f d) 1 ≡ f .ads
+  reads-ads : valueAt Carried 6 (frameOctets c f d) 1 ≡ f .ads
   reads-ads = rw nested (head-ads _ (f .ads) (f .adp) (codeOf c) _ (long .ads-long))
 
-  reads-adp : getD (octetsOf c f d) 7 0 ≡ f .adp
+  reads-adp : getD (frameOctets c f d) 7 0 ≡ f .adp
   reads-adp = rw nested (head-adp _ (f .ads) (f .adp) (codeOf c) _ (long .ads-long))
 
-  reads-za1 : valueAt (layoutOf c .za1) 8 (octetsOf c f d) 9 ≡ kept (layoutOf c .za1) (f .za1)
+  reads-za1 : valueAt (layoutOf c .za1) 8 (frameOctets c f d) 9 ≡ kept (layoutOf c .za1) (f .za1)
   reads-za1 =
       rw nested
-      (value-on-wire (layoutOf c .za1) (f .za1) 8 head (za2 ++ (tab ++ (station ++ (d ++ key)))) 9 (long .za1-long) nine)
+      (value-on-wire (layoutOf c .za1) (f .za1) 8 head (za2 ++ (tab ++ (announced ++ (d ++ key)))) 9 (long .za1-long) nine)
 
-  reads-za2 : valueAt (layoutOf c .za2) 8 (octetsOf c f d) (placesOf (layoutOf c) .za2) ≡ kept (layoutOf c .za2) (f .za2)
+  reads-za2 : valueAt (layoutOf c .za2) 8 (frameOctets c f d) (placesOf (layoutOf c) .za2) ≡ kept (layoutOf c .za2) (f .za2)
   reads-za2 =
-      rw (nested, cut-2 head za1 za2 tab station d key)
-      (value-on-wire (layoutOf c .za2) (f .za2) 8 (head ++ za1) (tab ++ (station ++ (d ++ key))) (placesOf (layoutOf c) .za2) (long .za2-long)
+      rw (nested, cut-2 head za1 za2 tab announced d key)
+      (value-on-wire (layoutOf c .za2) (f .za2) 8 (head ++ za1) (tab ++ (announced ++ (d ++ key))) (placesOf (layoutOf c) .za2) (long .za2-long)
       (rw (length-append, nine, z1)))
 
-  reads-tab : octetAt (layoutOf c .tab) (octetsOf c f d) (placesOf (layoutOf c) .tab) ≡ keptOctet (layoutOf c .tab) (f .tab)
+  reads-tab : octetAt (layoutOf c .tab) (frameOctets c f d) (placesOf (layoutOf c) .tab) ≡ keptOctet (layoutOf c .tab) (f .tab)
   reads-tab =
-      rw (nested, cut-3 head za1 za2 tab station d key)
-      (octet-on-wire (layoutOf c .tab) (f .tab) (head ++ za1 ++ za2) (station ++ (d ++ key)) (placesOf (layoutOf c) .tab)
+      rw (nested, cut-3 head za1 za2 tab announced d key)
+      (octet-on-wire (layoutOf c .tab) (f .tab) (head ++ za1 ++ za2) (announced ++ (d ++ key)) (placesOf (layoutOf c) .tab)
       (rw (length-append, length-append, nine, z1, z2)))
 
-  reads-station : valueAt (layoutOf c .station) 6 (octetsOf c f d) (placesOf (layoutOf c) .station) ≡ kept (layoutOf c .station) (f .station)
+  reads-station : valueAt (layoutOf c .announced) 6 (frameOctets c f d) (placesOf (layoutOf c) .announced) ≡ kept (layoutOf c .announced) (f .announced)
   reads-station =
-      rw (nested, cut-4 head za1 za2 tab station d key)
-      (value-on-wire (layoutOf c .station) (f .station) 6 (head ++ za1 ++ za2 ++ tab) (d ++ key) (placesOf (layoutOf c) .station) (long .station-long)
+      rw (nested, cut-4 head za1 za2 tab announced d key)
+      (value-on-wire (layoutOf c .announced) (f .announced) 6 (head ++ za1 ++ za2 ++ tab) (d ++ key) (placesOf (layoutOf c) .announced) (long .station-long)
       (rw (length-append, length-append, length-append, nine, z1, z2, t1)))
 
-  pub reads-fields : fieldsOf c (octetsOf c f d) ≡ carried c f
+  pub reads-fields : fieldsOf c (frameOctets c f d) ≡ carried c f
   unfolding fieldsOf carried
   reads-fields = rw (reads-ads, reads-adp, reads-za1, reads-za2, reads-tab, reads-station)
 
-  pub reads-data : dataOf c (octetsOf c f d) ≡ d
+  pub reads-data : dataOf c (frameOctets c f d) ≡ d
   unfolding dataOf
   reads-data =
-      let e : placesOf (layoutOf c) .content + length d ≡ length (octetsOf c f d) - 2 = omega (arith, length-octets c f d long) in
-      rw (← e, nested, cut-5 head za1 za2 tab station d key)
-      (part-middle (head ++ za1 ++ za2 ++ tab ++ station) d key (placesOf (layoutOf c) .content) (placesOf (layoutOf c) .content + length d)
+      let e : placesOf (layoutOf c) .content + length d ≡ length (frameOctets c f d) - 2 = omega (arith, length-octets c f d long) in
+      rw (← e, nested, cut-5 head za1 za2 tab announced d key)
+      (part-middle (head ++ za1 ++ za2 ++ tab ++ announced) d key (placesOf (layoutOf c) .content) (placesOf (layoutOf c) .content + length d)
       (rw (length-append, length-append, length-append, length-append, nine, z1, z2, t1, s1)) refl)
 
-  passes : divides (octetsOf c f d) ≡ true
-  unfolding octetsOf
+  passes : divides (frameOctets c f d) ≡ true
+  unfolding frameOctets
   passes = key-appended (bodyOf c f d)
 
-  named : commandOf (getD (octetsOf c f d) 8 0) ≡ Found c
+  named : commandOf (getD (frameOctets c f d) 8 0) ≡ Found c
   named = rw (nested, head-code _ (f .ads) (f .adp) (codeOf c) _ (long .ads-long)) (found c)
 
-  pub is-good : within (layoutOf c) (length d) ≡ true → inspected (octetsOf c f d) ≡ Good c
+  pub is-good : within (layoutOf c) (length d) ≡ true → inspected (frameOctets c f d) ≡ Good c
   unfolding inspectedAs judged judgedAs statedBy
   is-good w =
       let n = wholeLength (layoutOf c) (length d) in
-      let whole : length (octetsOf c f d) ≡ n = length-octets c f d long in
+      let whole : length (frameOctets c f d) ≡ n = length-octets c f d long in
       let b = within-bounds (layoutOf c) (length d) w in
-      let first : getD (octetsOf c f d) 0 0 ≡ n = rw nested (head-n n (f .ads) (f .adp) (codeOf c) _ (long .ads-long)) in
+      let first : getD (frameOctets c f d) 0 0 ≡ n = rw nested (head-n n (f .ads) (f .adp) (codeOf c) _ (long .ads-long)) in
       rw (
-        inspected-from (octetsOf c f d) (λ e. absurd (none (sym whole ∙ e))),
+        inspected-from (frameOctets c f d) (λ e. absurd (none (sym whole ∙ e))),
         first,
         between-both 11 128 n (omega arith) (omega (arith, limits c)),
-        eq-eqb (length (octetsOf c f d)) n whole,
+        eq-eqb (length (frameOctets c f d)) n whole,
         passes,
         named,
-        can-have (layoutOf c) (length (octetsOf c f d)) (omega arith) (omega arith),
+        can-have (layoutOf c) (length (frameOctets c f d)) (omega arith) (omega arith),
       )
     where
       none : wholeLength (layoutOf c) (length d) ≡ 0 → ⊥
       none e = omega arith
 
-  pub reads-back : within (layoutOf c) (length d) ≡ true → readOf (octetsOf c f d) ≡ record { verdict = Good c; fields = carried c f }
+  pub reads-back : within (layoutOf c) (length d) ≡ true → readOf (frameOctets c f d) ≡ record { verdict = Good c; fields = carried c f }
   unfolding readOf fieldsIn
   reads-back w = rw (is-good w, reads-fields)

@@ -13,7 +13,7 @@ use Rattle.frame.specs.declared.layout.Layout.{Layout}
 use Rattle.frame.specs.declared.layout.Presence.the-variants.{Carried}
 use Rattle.frame.specs.Layout.{layoutOf, placesOf}
 use Rattle.frame.specs.Content.{onWire, valueAt, fieldsOf, dataOf, inZero, inZeroField}
-use Rattle.frame.specs.Building.{headOf, fixedOf, bodyOf, octetsOf}
+use Rattle.frame.specs.Building.{headOf, fixedOf, bodyOf, frameOctets}
 use Rattle.frame.proofs.Widths.{has-bounds}
 use Rattle.frame.proofs.GoodFrame.{GoodFrame}
 use Rattle.frame.proofs.OneField.{wire-of-value, wire-of-octet}
@@ -32,7 +32,7 @@ module _ (l : Layout) (i : ℕ) where
   unfolding inZeroField
   in-tab e = rw (e, or-true (inZero (l .za2) 8 (placesOf l .za2) i)) (or-true (inZero (l .za1) 8 9 i))
 
-  in-station : inZero (l .station) 6 (placesOf l .station) i ≡ true → inZeroField l i ≡ true
+  in-station : inZero (l .announced) 6 (placesOf l .announced) i ≡ true → inZeroField l i ≡ true
   unfolding inZeroField
   in-station e =
       rw (e, or-true (inZero (l .tab) 1 (placesOf l .tab) i), or-true (inZero (l .za2) 8 (placesOf l .za2) i))
@@ -62,8 +62,8 @@ fixed-again c s h zero =
       wire-of-value (l .za1) 8 s 9 (omega arith) (λ i e. zero i (in-za1 l i e)),
       wire-of-value (l .za2) 8 s (p .za2) (omega arith) (λ i e. zero i (in-za2 l i e)),
       wire-of-octet (l .tab) s (p .tab) (omega arith) (λ i e. zero i (in-tab l i e)),
-      wire-of-value (l .station) 6 s (p .station) h (λ i e. zero i (in-station l i e)),
-      part-join s (p .tab) (p .station) (p .content) (omega arith) (omega arith) h,
+      wire-of-value (l .announced) 6 s (p .announced) h (λ i e. zero i (in-station l i e)),
+      part-join s (p .tab) (p .announced) (p .content) (omega arith) (omega arith) h,
       part-join s (p .za2) (p .tab) (p .content) (omega arith) (omega arith) h,
       part-join s 9 (p .za2) (p .content) (omega arith) (omega arith) h,
     )
@@ -88,8 +88,8 @@ module _ (c : Command) (s : List ℕ) (g : GoodFrame c s) (zero : (i : ℕ) → 
       )
       (part-front s (length s - 2) end)
 
-  pub rebuilt : ((i : ℕ) → getD s i 0 < 256) → octetsOf c (fieldsOf c s) (dataOf c s) ≡ s
-  unfolding octetsOf
+  pub rebuilt : ((i : ℕ) → getD s i 0 < 256) → frameOctets c (fieldsOf c s) (dataOf c s) ≡ s
+  unfolding frameOctets
   rebuilt octets =
       rw (body-again, ← divides-exactly s octets (omega (arith, g .least)) .0 (g .checked .key))
       (take-append-drop (length s - 2) s)

@@ -17,7 +17,7 @@ use Rattle.frame.specs.declared.builder.Built.the-variants.{Frame}
 use Rattle.frame.specs.Layout.{layoutOf, placesOf, wholeLength, within}
 use Rattle.frame.specs.Content.{Shaped, fieldsOf, dataOf, carried, inZeroField}
 use Rattle.frame.specs.Checks.{inspected, readOf, fieldsIn}
-use Rattle.frame.specs.Building.{octetsOf, refusedWith, over, built}
+use Rattle.frame.specs.Building.{frameOctets, refusedWith, over, built}
 use Rattle.frame.proofs.Widths.{has-bounds}
 use Rattle.frame.proofs.Writing.{length-octets}
 use Rattle.frame.proofs.GoodFrame.{GoodFrame, inspected-good}
@@ -34,7 +34,7 @@ module _ (b : List ℕ) (c : Command) (f : Fields) (d : List ℕ) where
   unfolding built
   built-beyond h w = rw (le-leb 128 (length b) h, w)
 
-  pub built-made : 128 ≤ length b → within (layoutOf c) (length d) ≡ true → built b c f d ≡ over (octetsOf c f d) b
+  pub built-made : 128 ≤ length b → within (layoutOf c) (length d) ≡ true → built b c f d ≡ over (frameOctets c f d) b
   unfolding built
   built-made h w = rw (le-leb 128 (length b) h, w)
 
@@ -45,7 +45,7 @@ pub built-reads-back : (b : List ℕ) (c : Command) (f : Fields) (d : List ℕ) 
     (built b c f d .answer ≡ Frame (record { 0 = n })) × (readOf frame ≡ record { verdict = Good c; fields = carried c f }) × (dataOf c frame ≡ d))
 built-reads-back b c f d long h w =
     let whole = length-octets c f d long in
-    rw (built-made b c f d h w, ← whole, take-fronted (octetsOf c f d) b)
+    rw (built-made b c f d h w, ← whole, take-fronted (frameOctets c f d) b)
     (refl, reads-back c f d long w, reads-data c f d long)
 
 -- what a frame with a possible length has as DATA can be built

@@ -20,7 +20,7 @@ width-most Carried n = omega arith
 -- the fields before DATA take 32 octets at most
 pub content-most : (l : Layout) → placesOf l .content ≤ 32
 content-most l =
-    omega (arith, width-most (l .za1) 8, width-most (l .za2) 8, width-most (l .tab) 1, width-most (l .station) 6)
+    omega (arith, width-most (l .za1) 8, width-most (l .za2) 8, width-most (l .tab) 1, width-most (l .announced) 6)
 
 -- DATA's limits are in order, and the longest frame of any command has 128 octets at most
 pub limits : (c : Command) → (layoutOf c .least .0 ≤ layoutOf c .most .0) × (wholeLength (layoutOf c) (layoutOf c .most .0) ≤ 128)

@@ -17,7 +17,7 @@ use Rattle.frame.specs.declared.content.Fields.{Fields}
 use Rattle.frame.specs.Codes.{codeOf}
 use Rattle.frame.specs.Layout.{layoutOf, width, placesOf, wholeLength}
 use Rattle.frame.specs.Content.{Shaped, turned, onWire}
-use Rattle.frame.specs.Building.{headOf, fixedOf, bodyOf, octetsOf, closed}
+use Rattle.frame.specs.Building.{headOf, fixedOf, bodyOf, frameOctets, closed}
 use Rattle.frame.proofs.Widths.{width-most}
 
 -- the address turned into the middle of the head
@@ -81,7 +81,7 @@ length-fixed l f long =
       length-on-wire (l .za1) (f .za1) 8 (long .za1-long),
       length-on-wire (l .za2) (f .za2) 8 (long .za2-long),
       length-on-wire (l .tab) (f .tab ∷ []) 1 refl,
-      length-on-wire (l .station) (f .station) 6 (long .station-long),
+      length-on-wire (l .announced) (f .announced) 6 (long .station-long),
     )
     (omega arith)
 
@@ -108,15 +108,15 @@ module _ (c : Command) (f : Fields) (d : List ℕ) (long : Shaped f) where
   unfolding bodyOf
   length-body = rw (length-append, length-append, nine) (omega (arith, length-fixed (layoutOf c) f long))
 
-  pub length-octets : length (octetsOf c f d) ≡ wholeLength (layoutOf c) (length d)
-  unfolding octetsOf
+  pub length-octets : length (frameOctets c f d) ≡ wholeLength (layoutOf c) (length d)
+  unfolding frameOctets
   length-octets = rw (length-append, length-body)
 
   pub frame-made : (b : List ℕ) → wholeLength (layoutOf c) (length d) ≤ length b
       → (let at = placesOf (layoutOf c) .content in
       let head = headOf (wholeLength (layoutOf c) (length d)) (f .ads) (f .adp) (codeOf c) in
-      closed (putMid at (at + length d - at) (spliced (spliced b 0 head) 9 (fixedOf (layoutOf c) f)) d) (at + length d) ≡ fronted (octetsOf c f d) b)
-  unfolding octetsOf bodyOf
+      closed (putMid at (at + length d - at) (spliced (spliced b 0 head) 9 (fixedOf (layoutOf c) f)) d) (at + length d) ≡ fronted (frameOctets c f d) b)
+  unfolding frameOctets bodyOf
   frame-made b h =
       steps-made b (headOf (wholeLength (layoutOf c) (length d)) (f .ads) (f .adp) (codeOf c)) (fixedOf (layoutOf c) f) d
       (placesOf (layoutOf c) .content) nine (length-fixed (layoutOf c) f long) h

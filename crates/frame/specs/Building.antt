@@ -7,7 +7,7 @@ use lib.ListN.{length, take}
 use lib.Dec.{leb}
 use Rattle.octets.specs.Splice.{spliced, fronted}
 use Rattle.crc.specs.AnnexE.{keyOctets}
-use Rattle.label.specs.declared.Octets.{Octets}
+use Rattle.numbers.specs.declared.Octets.{Octets}
 use Rattle.frame.specs.declared.codes.Command.{Command}
 use Rattle.frame.specs.declared.layout.Layout.{Layout}
 use Rattle.frame.specs.declared.content.Fields.{Fields}
@@ -31,7 +31,7 @@ headOf n ads adp code = n ∷ (turned ads ++ (adp ∷ code ∷ []))
 -- ZA1, ZA2, TAB and RSO's second ADS, those that the layout has
 unfoldable pub fixedOf : Layout → Fields → List ℕ
 fixedOf l f =
-    onWire (l .za1) (f .za1) ++ (onWire (l .za2) (f .za2) ++ (onWire (l .tab) (f .tab ∷ []) ++ onWire (l .station) (f .station)))
+    onWire (l .za1) (f .za1) ++ (onWire (l .za2) (f .za2) ++ (onWire (l .tab) (f .tab ∷ []) ++ onWire (l .announced) (f .announced)))
 
 -- a frame up to its CRC: the fields in ascending order (004 4.4.8), DATA as an octet string
 unfoldable pub bodyOf : Command → Fields → List ℕ → List ℕ
@@ -39,8 +39,8 @@ bodyOf c f d =
     headOf (wholeLength (layoutOf c) (length d)) (f .ads) (f .adp) (codeOf c) ++ (fixedOf (layoutOf c) f ++ d)
 
 -- a whole frame; the CRC is over all octets from N on, and its low octet is sent first
-unfoldable pub octetsOf : Command → Fields → List ℕ → List ℕ
-octetsOf c f d = bodyOf c f d ++ keyOctets (bodyOf c f d)
+unfoldable pub frameOctets : Command → Fields → List ℕ → List ℕ
+frameOctets c f d = bodyOf c f d ++ keyOctets (bodyOf c f d)
 
 -- a buffer whose first octets up to end are followed by their CRC
 abbrev pub closed : List ℕ → ℕ → List ℕ
@@ -62,7 +62,7 @@ over s b = record { answer = Frame (record { 0 = length s }); buffer = fronted s
 unfoldable pub built : List ℕ → Command → Fields → List ℕ → Outcome
 built b c f d =
     cond (leb 128 (length b))
-    (cond (within (layoutOf c) (length d)) (over (octetsOf c f d) b) (refusedWith Data 7 refl b))
+    (cond (within (layoutOf c) (length d)) (over (frameOctets c f d) b) (refusedWith Data 7 refl b))
     (refusedWith Buffer 17 refl b)
 
 -- For private functions of the card and the tool alone: what sending a frame leaves in the lent buffer, and its length.

@@ -59,7 +59,7 @@ inspected (n ∷ s) = inspectedAs (statedBy n) (n ∷ s)
 -- what is told of a frame that is refused
 abbrev pub noFields : Fields
 noFields =
-    record { ads = replicate 6 0; adp = 0; za1 = replicate 8 0; za2 = replicate 8 0; tab = 0; station = replicate 6 0 }
+    record { ads = replicate 6 0; adp = 0; za1 = replicate 8 0; za2 = replicate 8 0; tab = 0; announced = replicate 6 0 }
 
 unfoldable pub fieldsIn : Verdict → List ℕ → Fields
 fieldsIn (Good c) s = fieldsOf c s

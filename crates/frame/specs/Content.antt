@@ -19,11 +19,11 @@ pub record Shaped (f : Fields) : Type 0 where
   pub ads-long : length (f .ads) ≡ 6
   pub za1-long : length (f .za1) ≡ 8
   pub za2-long : length (f .za2) ≡ 8
-  pub station-long : length (f .station) ≡ 6
+  pub station-long : length (f .announced) ≡ 6
   pub ads-octets : (i : ℕ) → getD (f .ads) i 0 < 256
   pub za1-octets : (i : ℕ) → getD (f .za1) i 0 < 256
   pub za2-octets : (i : ℕ) → getD (f .za2) i 0 < 256
-  pub station-octets : (i : ℕ) → getD (f .station) i 0 < 256
+  pub station-octets : (i : ℕ) → getD (f .announced) i 0 < 256
   pub adp-octet : f .adp < 256
   pub tab-octet : f .tab < 256
 
@@ -61,7 +61,7 @@ fieldsOf c s =
       za1 = valueAt (l .za1) 8 s 9;
       za2 = valueAt (l .za2) 8 s (p .za2);
       tab = octetAt (l .tab) s (p .tab);
-      station = valueAt (l .station) 6 s (p .station);
+      announced = valueAt (l .announced) 6 s (p .announced);
     }
 
 -- its DATA: what stands between the other fields and the CRC
@@ -89,7 +89,7 @@ carried c f =
       za1 = kept (l .za1) (f .za1);
       za2 = kept (l .za2) (f .za2);
       tab = keptOctet (l .tab) (f .tab);
-      station = kept (l .station) (f .station);
+      announced = kept (l .announced) (f .announced);
     }
 
 -- whether offset i lies in a zero field of n octets at offset at
@@ -102,4 +102,4 @@ inZero Carried n at i = false
 unfoldable pub inZeroField : Layout → ℕ → Bool
 inZeroField l i =
     let p = placesOf l in
-    inZero (l .za1) 8 9 i || (inZero (l .za2) 8 (p .za2) i || (inZero (l .tab) 1 (p .tab) i || inZero (l .station) 6 (p .station) i))
+    inZero (l .za1) 8 9 i || (inZero (l .za2) 8 (p .za2) i || (inZero (l .tab) 1 (p .tab) i || inZero (l .announced) 6 (p .announced) i))

@@ -10,8 +10,8 @@ use Rattle.frame.specs.declared.layout.Layout.{Layout}
 use Rattle.frame.specs.declared.layout.Places.{Places}
 
 abbrev pub row : Presence → Presence → Presence → Presence → ℕ → ℕ → Layout
-row za1 za2 tab station least most =
-    record { za1 = za1; za2 = za2; tab = tab; station = station; least = record { 0 = least }; most = record { 0 = most } }
+row za1 za2 tab announced least most =
+    record { za1 = za1; za2 = za2; tab = tab; announced = announced; least = record { 0 = least }; most = record { 0 = most } }
 
 -- A row has ZA1 (8 octets), ZA2 (8), TAB (1), RSO's second ADS (6), and the least and the most octets of DATA. A field is Zero where
 -- 001 2.4.2 sets it to zero: REC's ZA2, AUT's ZA1, both of EOS. ASO's TABi, 1 to 40 octets, are its DATA.
@@ -44,8 +44,8 @@ abbrev pub placesOf : Layout → Places
 placesOf l =
     let za2 = 9 + width (l .za1) 8 in
     let tab = za2 + width (l .za2) 8 in
-    let station = tab + width (l .tab) 1 in
-    record { za2 = za2; tab = tab; station = station; content = station + width (l .station) 6 }
+    let announced = tab + width (l .tab) 1 in
+    record { za2 = za2; tab = tab; announced = announced; content = announced + width (l .announced) 6 }
 
 -- the whole length of a frame with n octets of DATA; N counts itself and the CRC (004 4.4.8)
 abbrev pub wholeLength : Layout → ℕ → ℕ

@@ -9,7 +9,7 @@ ghost use Rattle.frame.specs.declared.builder.Room.the-variants.{Enough,
 ghost use Rattle.frame.specs.declared.builder.Amount.the-variants.{Within, Beyond};
 ghost use Rattle.frame.specs.Layout.{layoutOf, within};
 ghost use Rattle.frame.specs.Content.{onWire};
-ghost use Rattle.frame.specs.Building.{refusalNumber, headOf, fixedOf, closed, octetsOf, built};
+ghost use Rattle.frame.specs.Building.{refusalNumber, headOf, fixedOf, closed, frameOctets, built};
 use crate::codes::Command;
 use crate::codes::code;
 use crate::content::Fields;
@@ -18,7 +18,7 @@ use crate::layout::Presence;
 use crate::layout::layout_of;
 use crate::layout::places_of;
 use crate::order::turn;
-use label::Octets;
+use numbers::Octets;
 
 // The check for 17: whether a buffer holds the longest frame.
 pub enum Room {
@@ -114,15 +114,15 @@ fn put_fixed(buffer: &mut [u8], layout: Layout, fields: Fields)
     let za1 = fields.za1;
     let za2 = fields.za2;
     let tab = [fields.tab];
-    let station = fields.station;
+    let announced = fields.announced;
     let has_za1 = layout.za1;
     let has_za2 = layout.za2;
     let has_tab = layout.tab;
-    let has_station = layout.station;
+    let has_announced = layout.announced;
     let za2_at = put_field(buffer, 9, has_za1, &za1);
     let tab_at = put_field(buffer, za2_at, has_za2, &za2);
-    let station_at = put_field(buffer, tab_at, has_tab, &tab);
-    put_field(buffer, station_at, has_station, &station);
+    let announced_at = put_field(buffer, tab_at, has_tab, &tab);
+    put_field(buffer, announced_at, has_announced, &announced);
 }
 
 // DATA over a part of the buffer that is as long.
@@ -148,7 +148,7 @@ fn close(buffer: &mut [u8], end: usize) -> usize
 // The frame over the front of a buffer that holds it.
 fn write(buffer: &mut [u8], command: Command, fields: Fields, data: &[u8]) -> usize
     requires { ⌜ (128 ≤ length (now buffer)) × (length (now «data») ≤ layoutOf command .most .0) ⌝ }
-    ensures { λ r. ⌜ (r ≡ length (octetsOf command fields (now («data» .entry)))) × (now (buffer .exit) ≡ fronted (octetsOf command fields (now («data» .entry))) (now (buffer .entry))) ⌝ }
+    ensures { λ r. ⌜ (r ≡ length (frameOctets command fields (now («data» .entry)))) × (now (buffer .exit) ≡ fronted (frameOctets command fields (now («data» .entry))) (now (buffer .entry))) ⌝ }
 {
     let layout = layout_of(command);
     let places = places_of(layout);

@@ -15,7 +15,7 @@ use crate::codes::Lookup;
 use crate::codes::command_of;
 use crate::layout::layout_of;
 use crate::layout::places_of;
-use label::Octets;
+use numbers::Octets;
 
 // The check for 1: the whole length that N states.
 pub enum Stated {

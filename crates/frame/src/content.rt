@@ -12,14 +12,14 @@ use crate::layout::places_of;
 use crate::order::turn;
 
 // What a frame carries beside its command and DATA. Addresses and numbers are in written order, the most significant octet first;
-// a field that the command does not carry is zero. station is RSO's second ADS.
+// a field that the command does not carry is zero. announced is RSO's second ADS.
 pub struct Fields {
     pub ads: [u8; 6],
     pub adp: u8,
     pub za1: [u8; 8],
     pub za2: [u8; 8],
     pub tab: u8,
-    pub station: [u8; 6],
+    pub announced: [u8; 6],
 }
 
 // What a slice is as a whole frame, and its fields; they are zero where it is refused.
@@ -80,20 +80,20 @@ pub fn fields_of(command: Command, frame: &[u8]) -> Fields
     let has_za1 = layout.za1;
     let has_za2 = layout.za2;
     let has_tab = layout.tab;
-    let has_station = layout.station;
+    let has_announced = layout.announced;
     let ads = address_at(frame, 1, Presence::Carried);
     let adp = octets::octet(frame, 7);
     let za1 = number_at(frame, 9, has_za1);
     let za2 = number_at(frame, at.za2, has_za2);
     let tab = octet_at(frame, at.tab, has_tab);
-    let station = address_at(frame, at.station, has_station);
+    let announced = address_at(frame, at.announced, has_announced);
     Fields {
         ads: ads,
         adp: adp,
         za1: za1,
         za2: za2,
         tab: tab,
-        station: station,
+        announced: announced,
     }
 }
 
@@ -120,7 +120,7 @@ fn no_fields() -> Fields
         za1: [0u8; 8],
         za2: [0u8; 8],
         tab: 0,
-        station: [0u8; 6],
+        announced: [0u8; 6],
     }
 }
 

@@ -3,7 +3,7 @@ ghost use mathlib.Core.Path.{_≡_};
 ghost use Rattle.frame.specs.declared.layout.Presence.the-variants.{Absent, Zero, Carried};
 ghost use Rattle.frame.specs.Layout.{row, layoutOf, width, placesOf};
 use crate::codes::Command;
-use label::Octets;
+use numbers::Octets;
 
 // Whether a command has a field, and whether the field carries a value or is always zero.
 pub enum Presence {
@@ -17,7 +17,7 @@ pub struct Layout {
     pub za1: Presence,
     pub za2: Presence,
     pub tab: Presence,
-    pub station: Presence,
+    pub announced: Presence,
     pub least: Octets,
     pub most: Octets,
 }
@@ -26,7 +26,7 @@ pub struct Layout {
 pub struct Places {
     pub za2: usize,
     pub tab: usize,
-    pub station: usize,
+    pub announced: usize,
     pub content: usize,
 }
 
@@ -38,21 +38,21 @@ fn bare(least: usize, most: usize) -> Layout
         za1: Presence::Absent,
         za2: Presence::Absent,
         tab: Presence::Absent,
-        station: Presence::Absent,
+        announced: Presence::Absent,
         least: Octets(least),
         most: Octets(most),
     }
 }
 
 // TAB, perhaps RSO's second ADS, and DATA.
-fn tabbed(station: Presence, most: usize) -> Layout
-    ensures { λ r. ⌜ r ≡ row Absent Absent Carried station 0 most ⌝ }
+fn tabbed(announced: Presence, most: usize) -> Layout
+    ensures { λ r. ⌜ r ≡ row Absent Absent Carried announced 0 most ⌝ }
 {
     Layout {
         za1: Presence::Absent,
         za2: Presence::Absent,
         tab: Presence::Carried,
-        station: station,
+        announced: announced,
         least: Octets(0),
         most: Octets(most),
     }
@@ -66,7 +66,7 @@ fn numbered(za1: Presence, za2: Presence, tab: Presence, most: usize) -> Layout
         za1: za1,
         za2: za2,
         tab: tab,
-        station: Presence::Absent,
+        announced: Presence::Absent,
         least: Octets(0),
         most: Octets(most),
     }
@@ -112,15 +112,15 @@ pub(crate) fn places_of(layout: Layout) -> Places
     let za1 = layout.za1;
     let za2 = layout.za2;
     let tab = layout.tab;
-    let station = layout.station;
+    let announced = layout.announced;
     let za2_at = 9 + width_of(za1, 8);
     let tab_at = za2_at + width_of(za2, 8);
-    let station_at = tab_at + width_of(tab, 1);
-    let content_at = station_at + width_of(station, 6);
+    let announced_at = tab_at + width_of(tab, 1);
+    let content_at = announced_at + width_of(announced, 6);
     Places {
         za2: za2_at,
         tab: tab_at,
-        station: station_at,
+        announced: announced_at,
         content: content_at,
     }
 }

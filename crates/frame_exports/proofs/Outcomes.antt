@@ -19,7 +19,7 @@ use Rattle.frame.specs.Codes.{codeOf, commandOf}
 use Rattle.frame.specs.Content.{fieldsOf, dataOf}
 use Rattle.frame.specs.Checks.{faultNumber, inspected, fieldsIn, readOf}
 use Rattle.frame.specs.Building.{built, refusalNumber}
-use Rattle.label.specs.declared.Octets.{Octets}
+use Rattle.numbers.specs.declared.Octets.{Octets}
 use Rattle.frame_exports.specs.Exported.{Shown, unwritten, writtenAs, buildFor, buildOutcome, shownAs, readOutcome}
 
 module _ (b : List ℕ) (code : ℕ) (f : Fields) (d : List ℕ) (before : ℕ) where

@@ -18,7 +18,7 @@ use Rattle.frame.specs.Checks.{faultNumber, inspected}
 use Rattle.frame.specs.Building.{built, refusalNumber}
 
 abbrev pub fieldsFrom : List ℕ → ℕ → List ℕ → List ℕ → ℕ → List ℕ → Fields
-fieldsFrom ads adp za1 za2 tab station = record { ads = ads; adp = adp; za1 = za1; za2 = za2; tab = tab; station = station }
+fieldsFrom ads adp za1 za2 tab announced = record { ads = ads; adp = adp; za1 = za1; za2 = za2; tab = tab; announced = announced }
 
 pub record Written : Type 0 where
   pub number : ℕ

@@ -19,11 +19,11 @@ pub extern "C" fn propolisk_frame_build(
     za1: &[u8; 8],
     za2: &[u8; 8],
     tab: u8,
-    station: &[u8; 6],
+    announced: &[u8; 6],
     data: &[u8],
     length: &mut usize,
 ) -> u8
-    ensures { λ r. ⌜ record { number = r; buffer = now (buffer .exit); length = now (length .exit) } ≡ buildOutcome (now (buffer .entry)) code (fieldsFrom (now (ads .entry)) adp (now (za1 .entry)) (now (za2 .entry)) tab (now (station .entry))) (now («data» .entry)) (now (length .entry)) ⌝ }
+    ensures { λ r. ⌜ record { number = r; buffer = now (buffer .exit); length = now (length .exit) } ≡ buildOutcome (now (buffer .entry)) code (fieldsFrom (now (ads .entry)) adp (now (za1 .entry)) (now (za2 .entry)) tab (now (announced .entry))) (now («data» .entry)) (now (length .entry)) ⌝ }
 {
     if buffer.len() < 128 {
         return 17;
@@ -34,14 +34,14 @@ pub extern "C" fn propolisk_frame_build(
     let its_ads = *ads;
     let its_za1 = *za1;
     let its_za2 = *za2;
-    let its_station = *station;
+    let its_station = *announced;
     let fields = Fields {
         ads: its_ads,
         adp: adp,
         za1: its_za1,
         za2: its_za2,
         tab: tab,
-        station: its_station,
+        announced: its_station,
     };
     let answer = frame::build(buffer, command, fields, data);
     match answer {
@@ -63,11 +63,11 @@ pub extern "C" fn propolisk_frame_read(
     za1: &mut [u8; 8],
     za2: &mut [u8; 8],
     tab: &mut u8,
-    station: &mut [u8; 6],
+    announced: &mut [u8; 6],
     data: &mut [u8; 116],
     length: &mut usize,
 ) -> u8
-    ensures { λ r. ⌜ record { number = r; code = now (code .exit); fields = fieldsFrom (now (ads .exit)) (now (adp .exit)) (now (za1 .exit)) (now (za2 .exit)) (now (tab .exit)) (now (station .exit)); content = now («data» .exit); length = now (length .exit) } ≡ readOutcome (now (octets .entry)) (record { number = 0; code = now (code .entry); fields = fieldsFrom (now (ads .entry)) (now (adp .entry)) (now (za1 .entry)) (now (za2 .entry)) (now (tab .entry)) (now (station .entry)); content = now («data» .entry); length = now (length .entry) }) ⌝ }
+    ensures { λ r. ⌜ record { number = r; code = now (code .exit); fields = fieldsFrom (now (ads .exit)) (now (adp .exit)) (now (za1 .exit)) (now (za2 .exit)) (now (tab .exit)) (now (announced .exit)); content = now («data» .exit); length = now (length .exit) } ≡ readOutcome (now (octets .entry)) (record { number = 0; code = now (code .entry); fields = fieldsFrom (now (ads .entry)) (now (adp .entry)) (now (za1 .entry)) (now (za2 .entry)) (now (tab .entry)) (now (announced .entry)); content = now («data» .entry); length = now (length .entry) }) ⌝ }
 {
     let reading = frame::read(octets);
     let verdict = reading.verdict;
@@ -78,7 +78,7 @@ pub extern "C" fn propolisk_frame_read(
             let its_ads = fields.ads;
             let its_za1 = fields.za1;
             let its_za2 = fields.za2;
-            let its_station = fields.station;
+            let its_station = fields.announced;
             let content = frame::data_of(command, octets);
             octets::put(data, 0, content);
             *length = content.len();
@@ -88,7 +88,7 @@ pub extern "C" fn propolisk_frame_read(
             *za1 = its_za1;
             *za2 = its_za2;
             *tab = fields.tab;
-            *station = its_station;
+            *announced = its_station;
             0
         }
     }

@@ -63,7 +63,7 @@ item-most Na1k f d s h = omega (arith, length-hex (f .za1), s .za1-long)
 item-most Na2 f d s h = omega (arith, length-hex (f .za2), s .za2-long)
 item-most Na2k f d s h = omega (arith, length-hex (f .za2), s .za2-long)
 item-most Tab f d s h = omega (arith, length-hex (f .tab ∷ []))
-item-most Station f d s h = omega (arith, length-hex (f .station), s .station-long)
+item-most Station f d s h = omega (arith, length-hex (f .announced), s .station-long)
 item-most Data f d s h = data-most d h
 item-most Tabi f d s h = omega (arith, length-hex d)
 

@@ -32,7 +32,7 @@ itemWords Na1k f d = (space ∷ N ∷ A ∷ one ∷ K ∷ space ∷ []) ++ hexTe
 itemWords Na2 f d = (space ∷ N ∷ A ∷ two ∷ space ∷ []) ++ hexText (f .za2)
 itemWords Na2k f d = (space ∷ N ∷ A ∷ two ∷ K ∷ space ∷ []) ++ hexText (f .za2)
 itemWords Tab f d = (space ∷ T ∷ A ∷ B ∷ space ∷ []) ++ hexText (f .tab ∷ [])
-itemWords Station f d = (space ∷ A ∷ D ∷ S ∷ space ∷ []) ++ hexText (f .station)
+itemWords Station f d = (space ∷ A ∷ D ∷ S ∷ space ∷ []) ++ hexText (f .announced)
 itemWords Data f d = dataWords d
 itemWords Tabi f d = (space ∷ T ∷ A ∷ B ∷ i ∷ space ∷ []) ++ hexText d
 

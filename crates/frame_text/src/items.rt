@@ -103,7 +103,7 @@ fn put_item(buffer: &mut [u8], at: usize, item: Item, fields: Fields, data: &[u8
 {
     let za1 = fields.za1;
     let za2 = fields.za2;
-    let station = fields.station;
+    let announced = fields.announced;
     match item {
         Item::Nothing => at,
         Item::Na1 => put_octets(buffer, at, b" NA1 ", &za1),
@@ -111,7 +111,7 @@ fn put_item(buffer: &mut [u8], at: usize, item: Item, fields: Fields, data: &[u8
         Item::Na2 => put_octets(buffer, at, b" NA2 ", &za2),
         Item::Na2k => put_octets(buffer, at, b" NA2K ", &za2),
         Item::Tab => put_octets(buffer, at, b" TAB ", &[fields.tab]),
-        Item::Station => put_octets(buffer, at, b" ADS ", &station),
+        Item::Station => put_octets(buffer, at, b" ADS ", &announced),
         Item::Data => put_data(buffer, at, data),
         Item::Tabi => put_octets(buffer, at, b" TABi ", data),
     }

@@ -8,7 +8,7 @@ use lib.ListN.{length, length-append}
 use lib.Seq.{take-append-seam, drop-append-seam, drop-drop}
 use borrow.Author.Tests.{le-leb}
 use Rattle.card.specs.Events.{Call, Octet, Gap, SessionEnd, MeterWrite}
-use Rattle.history.specs.Encoding.{callOf, wholeAt, callAt, sizeAt, callsWithin, callsOf, packed, octetsOfCall, octetsOf}
+use Rattle.history.specs.Encoding.{callOf, wholeAt, callAt, sizeAt, callsWithin, callsOf, packed, octetsOfCall, frameOctets}
 use Rattle.history.proofs.Decoding.{calls-none}
 
 module _ (kind argument room : ℕ) (text rest : List ℕ) where
@@ -44,12 +44,12 @@ some-octets (MeterWrite t d) = omega arith
 some-octets SessionEnd = omega arith
 some-octets Gap = omega arith
 
-within-back : (h : List Call) (n : ℕ) → length (octetsOf h) ≤ n → callsWithin n (octetsOf h) ≡ h
-unfolding octetsOf
+within-back : (h : List Call) (n : ℕ) → length (frameOctets h) ≤ n → callsWithin n (frameOctets h) ≡ h
+unfolding frameOctets
 within-back [] n p = calls-none n
-within-back (k ∷ h) zero p = let z : ⊥ = omega (arith, length-append (octetsOfCall k) (octetsOf h), some-octets k) in absurd z
+within-back (k ∷ h) zero p = let z : ⊥ = omega (arith, length-append (octetsOfCall k) (frameOctets h), some-octets k) in absurd z
 within-back (k ∷ h) (suc n) p =
-    call-back k (octetsOf h) n ∙ ap₂ _∷_ refl (within-back h n (omega (arith, length-append (octetsOfCall k) (octetsOf h), some-octets k)))
+    call-back k (frameOctets h) n ∙ ap₂ _∷_ refl (within-back h n (omega (arith, length-append (octetsOfCall k) (frameOctets h), some-octets k)))
 
-pub octets-back : (h : List Call) → callsOf (octetsOf h) ≡ h
-octets-back h = within-back h (length (octetsOf h)) (omega arith)
+pub octets-back : (h : List Call) → callsOf (frameOctets h) ≡ h
+octets-back h = within-back h (length (frameOctets h)) (omega arith)

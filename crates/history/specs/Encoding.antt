@@ -44,6 +44,6 @@ octetsOfCall (MeterWrite t d) = packed 1 t 0 d
 octetsOfCall SessionEnd = packed 2 0 0 []
 octetsOfCall Gap = packed 3 0 0 []
 
-unfoldable pub octetsOf : List Call → List ℕ
-octetsOf [] = []
-octetsOf (k ∷ h) = octetsOfCall k ++ octetsOf h
+unfoldable pub frameOctets : List Call → List ℕ
+frameOctets [] = []
+frameOctets (k ∷ h) = octetsOfCall k ++ frameOctets h

@@ -6,13 +6,16 @@ use Prim.Native.Nat.{ℕ, _≤_}
 use native.Mathlib.Omega.{arith}
 use lib.ListN.{length, take}
 use lib.Seq.{length-take-le}
-use Rattle.label.specs.declared.Octets.{Octets}
-use Rattle.label.specs.declared.Characters.{Characters}
+use Rattle.numbers.specs.declared.Octets.{Octets}
+use Rattle.numbers.specs.declared.Characters.{Characters}
 use Rattle.label.specs.declared.Fitting.{Fitting}
 use Rattle.label.specs.declared.Fitting.the-variants as fitting
 use Rattle.label.specs.Utf8.{wellFormedOctets, wellFormed}
 use Rattle.label.specs.Character.{characters}
-use Rattle.label.specs.Fitting.{given, refused, illFormed, inOctets, inCharacters, countsOf, answerOfFitting, measured, keptCharacters, fitOf, keptPart, frontOf, Longest}
+use Rattle.numbers.specs.Table.{illFormed}
+use Rattle.numbers.specs.Counts.{inOctets, inCharacters}
+use Rattle.numbers.specs.Answer.{given, refusedAt}
+use Rattle.label.specs.Fitting.{countsOf, answerOfFitting, measured, keptCharacters, fitOf, keptPart, frontOf, Longest}
 use Rattle.label.proofs.Run.{octets-fit, octets-again, octets-front, well-formed-octets, octets-well-formed}
 use Rattle.label.proofs.Whole.{characters-again, characters-front, characters-whole}
 use Rattle.label.proofs.Longest.{keep-front, keep-octets, keep-count, keep-longest, keep-whole}
@@ -33,7 +36,7 @@ pub measured-well-formed : (text : List ℕ) → wellFormed text ≡ true → me
 unfolding measured
 measured-well-formed text w = judged-well-formed text (inCharacters (length (characters text))) w
 
-pub measured-ill-formed : (text : List ℕ) → wellFormed text ≡ false → measured text ≡ refused illFormed (inOctets (wellFormedOctets text))
+pub measured-ill-formed : (text : List ℕ) → wellFormed text ≡ false → measured text ≡ refusedAt illFormed (inOctets (wellFormedOctets text))
 unfolding measured
 measured-ill-formed text w = judged-ill-formed text (inCharacters (length (characters text))) w
 
@@ -41,7 +44,7 @@ pub measured-given : (text : List ℕ) (count : Characters) → given count ≡ 
 unfolding measured
 measured-given text count e = let told : (wellFormed text ≡ true) × (count ≡ inCharacters (length (characters text))) = judged-given text (inCharacters (length (characters text))) count e in (told .0, ap (λ (c : Characters). c .0) (told .1))
 
-pub measured-refused : (text : List ℕ) (number : ℕ) (at : Octets) → refused number at ≡ measured text → (wellFormed text ≡ false) × (number ≡ illFormed) × (at .0 ≡ wellFormedOctets text)
+pub measured-refused : (text : List ℕ) (number : ℕ) (at : Octets) → refusedAt number at ≡ measured text → (wellFormed text ≡ false) × (number ≡ illFormed) × (at .0 ≡ wellFormedOctets text)
 unfolding measured
 measured-refused text number at e = judged-refused text (inCharacters (length (characters text))) number at e
 
@@ -81,12 +84,12 @@ module _ (label : List ℕ) (octets : Octets) (count : Characters) where
       let told : (wellFormed label ≡ true) × (found ≡ countsOf (keptCharacters label octets count)) = judged-given label (countsOf (keptCharacters label octets count)) found e in
       (told .0, rw (kept-well-formed (told .0)) (ap (λ (f : Octets × Characters). f .0 .0) (told .1)), rw (kept-well-formed (told .0), kept-again) (ap (λ (f : Octets × Characters). f .1 .0) (told .1)))
 
-  pub fit-refused : (number : ℕ) (at : Octets) → refused number at ≡ fitOf label octets count → (wellFormed label ≡ false) × (number ≡ illFormed) × (at .0 ≡ wellFormedOctets label)
+  pub fit-refused : (number : ℕ) (at : Octets) → refusedAt number at ≡ fitOf label octets count → (wellFormed label ≡ false) × (number ≡ illFormed) × (at .0 ≡ wellFormedOctets label)
   unfolding fitOf
   fit-refused number at e = judged-refused label (countsOf (keptCharacters label octets count)) number at e
 
   -- "Ill-formed text anywhere is 8, with the offset at which the longest well-formed front part ends" (01, Labels)
-  pub fit-ill-formed : wellFormed label ≡ false → fitOf label octets count ≡ refused illFormed (inOctets (wellFormedOctets label))
+  pub fit-ill-formed : wellFormed label ≡ false → fitOf label octets count ≡ refusedAt illFormed (inOctets (wellFormedOctets label))
   unfolding fitOf
   fit-ill-formed w = judged-ill-formed label (countsOf (keptCharacters label octets count)) w
 

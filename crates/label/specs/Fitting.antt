@@ -4,8 +4,11 @@ use mathlib.Core.List.{List, [], _∷_, flatten}
 use Prim.Native.Nat.{ℕ, zero, suc, _-_, _≤_}
 use lib.Dec.{leb}
 use lib.ListN.{length, take}
-use Rattle.label.specs.declared.Octets.{Octets}
-use Rattle.label.specs.declared.Characters.{Characters}
+use Rattle.numbers.specs.Table.{illFormed}
+use Rattle.numbers.specs.Counts.{inOctets, inCharacters}
+use Rattle.numbers.specs.Answer.{Answer, given, refusedAt}
+use Rattle.numbers.specs.declared.Octets.{Octets}
+use Rattle.numbers.specs.declared.Characters.{Characters}
 use Rattle.label.specs.declared.Text.{Text}
 use Rattle.label.specs.declared.Text.the-variants as text
 use Rattle.label.specs.declared.Fitting.{Fitting}
@@ -13,32 +16,17 @@ use Rattle.label.specs.declared.Fitting.the-variants as fitting
 use Rattle.label.specs.Utf8.{wellFormed, wellFormedOctets}
 use Rattle.label.specs.Character.{characters, WholeCharacters}
 
-abbrev pub inOctets : ℕ → Octets
-inOctets count = record { 0 = count }
-
-abbrev pub inCharacters : ℕ → Characters
-inCharacters count = record { 0 = count }
-
--- an answer of document 01: values and no number, or a number with an offset
-pub data Answer (Values : Type 0) : Type 0 where
-  given : Values → Answer Values
-  refused : ℕ → Octets → Answer Values
-
--- 01, Numbers handed back: ill-formed
-abbrev pub illFormed : ℕ
-illFormed = 8
-
 abbrev pub answerOfText : Text → Answer Characters
 answerOfText (text.WellFormed count) = given count
-answerOfText (text.IllFormed offset) = refused illFormed offset
+answerOfText (text.IllFormed offset) = refusedAt illFormed offset
 
 abbrev pub answerOfFitting : Fitting → Answer (Octets × Characters)
 answerOfFitting (fitting.Kept octets count) = given (octets, count)
-answerOfFitting (fitting.IllFormed offset) = refused illFormed offset
+answerOfFitting (fitting.IllFormed offset) = refusedAt illFormed offset
 
 -- 01, Labels: ill-formed text anywhere is 8, with the offset at which the longest well-formed front part ends
 unfoldable pub judged : {Values : Type 0} → List ℕ → Values → Answer Values
-judged text values = cond (wellFormed text) (given values) (refused illFormed (inOctets (wellFormedOctets text)))
+judged text values = cond (wellFormed text) (given values) (refusedAt illFormed (inOctets (wellFormedOctets text)))
 
 -- a text's own character count, or 8 with the offset
 unfoldable pub measured : List ℕ → Answer Characters

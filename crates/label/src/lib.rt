@@ -6,13 +6,9 @@ ghost use Rattle.label.specs.Fitting.{answerOfText, answerOfFitting, mea
 
 mod utf8;
 
+use numbers::Characters;
+use numbers::Octets;
 use utf8::sequence_at;
-
-// A count of octets, a limit on it, or an offset.
-pub struct Octets(pub usize);
-
-// A count of characters, or a limit on it.
-pub struct Characters(pub usize);
 
 // What a text is: well-formed with this many characters, or ill-formed past this offset.
 pub enum Text {

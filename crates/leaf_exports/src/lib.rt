@@ -2,11 +2,12 @@
 ghost use mathlib.Core.Path.{_≡_};
 ghost use Rattle.crc.specs.AnnexE.{checkKey, divides};
 ghost use Rattle.des.specs.Des.{encipher, decipher};
-ghost use Rattle.label.specs.Fitting.{fitOf, inOctets, inCharacters};
+ghost use Rattle.numbers.specs.Counts.{inOctets, inCharacters};
+ghost use Rattle.label.specs.Fitting.{fitOf};
 ghost use Rattle.leaf_exports.specs.Report.{report};
-use label::Characters;
 use label::Fitting;
-use label::Octets;
+use numbers::Characters;
+use numbers::Octets;
 
 // The check key of the octets; its low octet is sent first.
 #[no_mangle]

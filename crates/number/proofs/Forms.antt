@@ -9,7 +9,8 @@ use lib.Seq.{take-length, drop-at, length-take-le, drop-length, take-at, getD-dr
 use lib.Dec.{ltb}
 use borrow.Author.Tests.{lt-ltb, le-leb}
 use Rattle.number.specs.Groups.{encoded, Front, found, none, frontOf, placed, readAt, octetsAt}
-use Rattle.number.specs.Answers.{numberThere, refusedAt, swapFault}
+use Rattle.numbers.specs.Table.{faultyFile}
+use Rattle.number.specs.Answers.{numberThere, refusedAt}
 use Rattle.number.proofs.Fronts.{front-encoded, encoded-front, Formed}
 
 -- the form of n with anything behind it
@@ -72,10 +73,10 @@ read-front s at n next e = go (frontOf (drop at s)) refl e
         let k : at + v ≡ next = cc in
         (v, q ∙ rw p, sym k)
 
-pub read-faulty : (s : List ℕ) (at : ℕ) → readAt s at ≡ refusedAt swapFault at → frontOf (drop at s) ≡ none
+pub read-faulty : (s : List ℕ) (at : ℕ) → readAt s at ≡ refusedAt faultyFile at → frontOf (drop at s) ≡ none
 unfolding readAt placed
 read-faulty s at e = go (frontOf (drop at s)) e
   where
-    go : (f : Front) → placed at f ≡ refusedAt swapFault at → f ≡ none
+    go : (f : Front) → placed at f ≡ refusedAt faultyFile at → f ≡ none
     go none r = refl
     go (found m v) r = let z : _≡_ {A = ℕ} 0 1 = cc in let y : ⊥ = omega arith in absurd y

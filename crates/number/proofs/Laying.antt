@@ -11,7 +11,8 @@ use lib.Seq.{paste, paste-zero, paste-suc, length-paste, drop-drop, getD-drop}
 use lib.Dec.{ltb, lit<, lit≤}
 use borrow.Author.Tests.{lt-ltb, le-ltb, le-leb, lt-leb}
 use Rattle.number.specs.Groups.{groups, encoded, writtenAt, octetsAt}
-use Rattle.number.specs.Answers.{wroteTo, refusedWith, tooShort}
+use Rattle.numbers.specs.Table.{wrongLength}
+use Rattle.number.specs.Answers.{wroteTo, refusedWith}
 
 -- a number below 128 is one octet; any other has its low group first
 pub one-group : (k n : ℕ) → n < 128 → groups k n ≡ n ∷ []
@@ -114,7 +115,7 @@ module _ (s : List ℕ) (at n : ℕ) (octets : List ℕ) (rest next j k : ℕ) (
 
 -- where it does not fit
 module _ (s : List ℕ) (at n : ℕ) (h : length s < at + length (encoded n)) where
-  pub short-answer : refusedWith tooShort ≡ writtenAt s at n
+  pub short-answer : refusedWith wrongLength ≡ writtenAt s at n
   unfolding writtenAt
   short-answer = rw (lt-leb _ _ h)
 

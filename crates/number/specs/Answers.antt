@@ -1,17 +1,10 @@
--- Document 01's numbers for the swap file, and the number and values that each answer here stands for.
+-- Document 01's number and the values that each answer here stands for.
 use Prim.Native.Nat.{ℕ}
+use Rattle.numbers.specs.Table.{wrongLength, faultyFile}
 use Rattle.number.specs.declared.Reading.{Reading}
 use Rattle.number.specs.declared.Reading.the-variants.{Number, Faulty}
 use Rattle.number.specs.declared.Written.{Written}
 use Rattle.number.specs.declared.Written.the-variants.{Next, Short}
-
--- 01, Numbers handed back: a faulty swap file
-abbrev pub swapFault : ℕ
-swapFault = 18
-
--- 01, Numbers handed back: a buffer too short for the file
-abbrev pub tooShort : ℕ
-tooShort = 17
 
 -- what reading answers: a number with the offset after it, or 01's number with an offset
 pub data Read : Type 0 where
@@ -21,7 +14,7 @@ pub data Read : Type 0 where
 -- 01, Swap file: a bad count or length is 18 at its start
 abbrev pub answerOfReading : ℕ → Reading → Read
 answerOfReading at (Number n next) = numberThere n next
-answerOfReading at Faulty = refusedAt swapFault at
+answerOfReading at Faulty = refusedAt faultyFile at
 
 -- what writing answers: the offset after the number, or 01's number
 pub data Wrote : Type 0 where
@@ -30,4 +23,4 @@ pub data Wrote : Type 0 where
 
 abbrev pub answerOfWritten : Written → Wrote
 answerOfWritten (Next next) = wroteTo next
-answerOfWritten Short = refusedWith tooShort
+answerOfWritten Short = refusedWith wrongLength

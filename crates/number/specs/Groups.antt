@@ -5,7 +5,8 @@ use mathlib.Core.Bool.{cond}
 use lib.ListN.{length, drop}
 use lib.Seq.{paste}
 use lib.Dec.{ltb, leb, eqb}
-use Rattle.number.specs.Answers.{Read, numberThere, refusedAt, Wrote, wroteTo, refusedWith, swapFault, tooShort}
+use Rattle.numbers.specs.Table.{faultyFile, wrongLength}
+use Rattle.number.specs.Answers.{Read, numberThere, refusedAt, Wrote, wroteTo, refusedWith}
 
 -- the octets of n, of which at most so many are followed by another
 unfoldable pub groups : ℕ → ℕ → List ℕ
@@ -44,7 +45,7 @@ frontOf s = bounded (decoded 5 s)
 -- a number found at an offset, with the offset after it; 18 at the offset where there is none
 unfoldable pub placed : ℕ → Front → Read
 placed at (found n w) = numberThere n (at + w)
-placed at none = refusedAt swapFault at
+placed at none = refusedAt faultyFile at
 
 -- what stands at an offset
 unfoldable pub readAt : List ℕ → ℕ → Read
@@ -52,7 +53,7 @@ readAt s at = placed at (frontOf (drop at s))
 
 -- what writing n at an offset answers: the offset after it, or 17 where it does not fit
 unfoldable pub writtenAt : List ℕ → ℕ → ℕ → Wrote
-writtenAt s at n = cond (leb (at + length (encoded n)) (length s)) (wroteTo (at + length (encoded n))) (refusedWith tooShort)
+writtenAt s at n = cond (leb (at + length (encoded n)) (length s)) (wroteTo (at + length (encoded n))) (refusedWith wrongLength)
 
 -- the octets after that: those of n from the offset on, where it fits
 unfoldable pub octetsAt : List ℕ → ℕ → ℕ → List ℕ

@@ -4,7 +4,7 @@ use mathlib.Core.Path.{_≡_, refl}
 use mathlib.Core.Bool.{Bool, true, false, cond}
 use Rattle.octets.specs.Between.{between}
 use Rattle.octets.proofs.Bounds.{between-both, between-bounds}
-use Rattle.label.specs.declared.Octets.{Octets}
+use Rattle.numbers.specs.declared.Octets.{Octets}
 use Rattle.frame.specs.declared.checks.Stated.the-variants.{Whole, Outside}
 use Rattle.frame.specs.Checks.{statedBy}
 use Rattle.octets.proofs.Impossible.{impossible}

@@ -12,7 +12,7 @@ use frame::checks::Stated;
 use frame::checks::fault_number;
 use frame::checks::stated_by;
 use frame::judge;
-use label::Octets;
+use numbers::Octets;
 
 // The octets of a partly received frame, N first. Those at and past the count are free.
 pub struct Receiver {

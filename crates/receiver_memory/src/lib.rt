@@ -4,7 +4,7 @@ ghost use lib.ListN.{replicate};
 ghost use Rattle.octets.specs.Splice.{spliced};
 ghost use Rattle.receiver_memory.specs.Fields.{markOf, narrowed};
 ghost use Rattle.receiver_memory.specs.Receiver.{decoded, image};
-use label::Octets;
+use numbers::Octets;
 use receiver::Receiver;
 
 // A state mark: 1 where it is set.

@@ -6,12 +6,12 @@ use mathlib.Core.Path.{_≡_, refl}
 use lib.Dec.{ltb}
 use lib.ListN.{length}
 use borrow.Author.Tests.{ltb-false, le-ltb}
-use Rattle.label.specs.declared.Octets.{Octets}
+use Rattle.numbers.specs.declared.Octets.{Octets}
 use Rattle.records.specs.declared.Attributes.{Attributes}
 use Rattle.records.specs.declared.Refusal.the-variants.{TooLong}
 use Rattle.records.specs.declared.Answer.the-variants.{Accepted, Refused}
 use Rattle.records.specs.declared.Answer.{Answer}
-use Rattle.records.specs.Judging.{octetsOf, overLong, kindAnswer, acceptable}
+use Rattle.records.specs.Judging.{lengthOf, overLong, kindAnswer, acceptable}
 use Rattle.records.proofs.Tests.{neither}
 use Rattle.records.proofs.Variants.{not-both}
 
@@ -35,12 +35,12 @@ passed false answer h = (refl, h)
 
 -- accepted data has at most 116 octets, and at most as many as the limit allows
 module _ (a : Attributes) (d : List ℕ) (h : acceptable a d ≡ Accepted) where
-  fitting : overLong (a .limit) (octetsOf d) ≡ false
+  fitting : overLong (a .limit) (lengthOf d) ≡ false
   unfolding acceptable
-  fitting = passed (overLong (a .limit) (octetsOf d)) (kindAnswer (a .kind) d) h .0
+  fitting = passed (overLong (a .limit) (lengthOf d)) (kindAnswer (a .kind) d) h .0
 
   pub accepted-room : length d ≤ 116
-  accepted-room = within-room (a .limit) (octetsOf d) fitting
+  accepted-room = within-room (a .limit) (lengthOf d) fitting
 
   pub accepted-limit : length d ≤ a .limit .0
-  accepted-limit = within-limit (a .limit) (octetsOf d) fitting
+  accepted-limit = within-limit (a .limit) (lengthOf d) fitting

@@ -18,7 +18,7 @@ use Rattle.records.specs.declared.Found.{Found}
 use Rattle.records.specs.declared.Answer.the-variants as answer
 use Rattle.records.specs.declared.Answer.{Answer}
 use Rattle.records.specs.Numbers.{foundAnswer}
-use Rattle.records.specs.Judging.{octetsOf, acceptable, contents}
+use Rattle.records.specs.Judging.{lengthOf, acceptable, contents}
 use Rattle.records.specs.Finding.{used, attributesOf, blank, recordAt}
 use Rattle.records.specs.Writing.{grant, hold, store, storeWhen, write}
 use Rattle.records.specs.Setup.{characterLimit, Rules, Sound}
@@ -128,7 +128,7 @@ module _ (s : Records) (access : Access) (t : ℕ) (d : List ℕ) where
       (λ refusal e. not-both refusal e)
 
   pub write-contents : Rules s → (j : ℕ) → j < length (used s) → recordAt s j .attributes .tab ≡ t → write s access t d .answer ≡ answer.Accepted
-      → (contents (recordAt (write s access t d .records) j) ≡ d) × (recordAt (write s access t d .records) j .length ≡ octetsOf d)
+      → (contents (recordAt (write s access t d .records) j) ≡ d) × (recordAt (write s access t d .records) j .length ≡ lengthOf d)
   write-contents rules j h tab granted = rw (write-holds rules j h tab granted) (holding-contents d (recordAt s j), refl)
 
   -- a write leaves every record with another TAB, and every record that is not in use

@@ -4,9 +4,11 @@ use mathlib.Core.Bool.{Bool, cond, _||_}
 use mathlib.Core.List.{List}
 use lib.Dec.{ltb}
 use lib.ListN.{length, take}
+use Rattle.numbers.specs.Counts.{inOctets}
+use Rattle.numbers.specs.Answer as number
 use Rattle.label.specs.Fitting as label
-use Rattle.label.specs.declared.Characters.{Characters}
-use Rattle.label.specs.declared.Octets.{Octets}
+use Rattle.numbers.specs.declared.Characters.{Characters}
+use Rattle.numbers.specs.declared.Octets.{Octets}
 use Rattle.records.specs.declared.Kind.the-variants.{Raw, Label}
 use Rattle.records.specs.declared.Kind.{Kind}
 use Rattle.records.specs.declared.Attributes.{Attributes}
@@ -15,17 +17,18 @@ use Rattle.records.specs.declared.Refusal.the-variants.{TooLong, IllForm
 use Rattle.records.specs.declared.Answer.the-variants.{Accepted, Refused}
 use Rattle.records.specs.declared.Answer.{Answer}
 
-abbrev pub octetsOf : List ℕ → Octets
-octetsOf d = label.inOctets (length d)
+abbrev pub lengthOf : List ℕ → Octets
+lengthOf d = inOctets (length d)
 
 -- more octets than the limit allows, or than the 116 that any limit may allow
 abbrev pub overLong : Octets → Octets → Bool
 overLong limit octets = ltb 116 (octets .0) || ltb (limit .0) (octets .0)
 
 -- "well-formed UTF-8 (8) and within the character limit (9), in that order"
-abbrev pub textAnswer : Characters → label.Answer Characters → Answer
-textAnswer limit (label.refused number offset) = Refused IllFormed
-textAnswer limit (label.given characters) = cond (ltb (limit .0) (characters .0)) (Refused TooManyCharacters) Accepted
+abbrev pub textAnswer : Characters → number.Answer Characters → Answer
+textAnswer limit (number.refused n) = Refused IllFormed
+textAnswer limit (number.refusedAt n offset) = Refused IllFormed
+textAnswer limit (number.given characters) = cond (ltb (limit .0) (characters .0)) (Refused TooManyCharacters) Accepted
 
 -- only a label is text
 abbrev pub kindAnswer : Kind → List ℕ → Answer
@@ -34,7 +37,7 @@ kindAnswer (Label limit) d = textAnswer limit (label.measured d)
 
 -- "within the octet limit (7) and, for a label, .."
 unfoldable pub acceptable : Attributes → List ℕ → Answer
-acceptable a d = cond (overLong (a .limit) (octetsOf d)) (Refused TooLong) (kindAnswer (a .kind) d)
+acceptable a d = cond (overLong (a .limit) (lengthOf d)) (Refused TooLong) (kindAnswer (a .kind) d)
 
 -- what a record holds
 abbrev pub contents : Record → List ℕ

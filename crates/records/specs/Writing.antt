@@ -15,7 +15,7 @@ use Rattle.records.specs.declared.Answer.the-variants as answer
 use Rattle.records.specs.declared.Answer.{Answer}
 use Rattle.records.specs.declared.Written.{Written}
 use Rattle.records.specs.Numbers.{foundAnswer}
-use Rattle.records.specs.Judging.{octetsOf, acceptable}
+use Rattle.records.specs.Judging.{lengthOf, acceptable}
 use Rattle.records.specs.Finding.{attributesOf, blankAttributes, recordAt, find, whenFound}
 
 -- "open to that command (11)"; to the meter every record is open
@@ -42,7 +42,7 @@ lay storage d = d ++ drop (length d) storage
 
 -- the record with d for its contents
 abbrev pub hold : Record → List ℕ → Record
-hold r d = record { attributes = r .attributes; length = octetsOf d; storage = lay (r .storage) d }
+hold r d = record { attributes = r .attributes; length = lengthOf d; storage = lay (r .storage) d }
 
 abbrev pub store : Records → ℕ → List ℕ → Records
 store s i d = record { count = s .count; each = set (s .each) i (hold (recordAt s i) d) }

@@ -8,9 +8,9 @@ use crate::Attributes;
 use crate::Kind;
 use crate::Record;
 use crate::Refusal;
-use label::Characters;
-use label::Octets;
 use label::Text;
+use numbers::Characters;
+use numbers::Octets;
 
 impl Refusal {
     pub fn number(self) -> u8

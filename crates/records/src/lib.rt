@@ -4,8 +4,8 @@ mod judging;
 mod setup;
 mod writing;
 
-use label::Characters;
-use label::Octets;
+use numbers::Characters;
+use numbers::Octets;
 
 // A label has a limit on its characters; a raw record has none.
 pub enum Kind {

@@ -8,7 +8,7 @@ use crate::Kind;
 use crate::Record;
 use crate::Records;
 use crate::finding::in_use;
-use label::Octets;
+use numbers::Octets;
 
 impl Attributes {
     fn keeps_limits(self) -> bool

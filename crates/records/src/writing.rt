@@ -12,7 +12,7 @@ use crate::Record;
 use crate::Records;
 use crate::Refusal;
 use crate::Written;
-use label::Octets;
+use numbers::Octets;
 
 impl Access {
     fn opens(self, attributes: Attributes) -> bool

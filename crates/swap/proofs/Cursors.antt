@@ -12,7 +12,7 @@ use Rattle.octets.specs.Part.{partOf}
 use Rattle.octets.specs.Splice.{spliced}
 use Rattle.octets.proofs.Parts.{part-there, part-past}
 use Rattle.octets.proofs.Splice.{spliced-whole, spliced-nothing}
-use Rattle.number.specs.Answers.{swapFault}
+use Rattle.numbers.specs.Table.{faultyFile}
 use Rattle.number.specs.Groups.{found, none, frontOf}
 use Rattle.swap.specs.declared.item.Entry.{Entry}
 use Rattle.swap.specs.declared.item.Item.the-variants.{Good, Bad}
@@ -37,11 +37,11 @@ module _ (s : List ℕ) where
   next-end c e = rw (eq-eqb (c .left .0) 0 e)
 
   module _ (c : Cursor) (more : c .left .0 ≡ 0 → ⊥) where
-    pub next-none : (o : ℕ) → itemAt 0 s (c .at) ≡ Bad o → refusedWith swapFault ≡ nextAt s c
+    pub next-none : (o : ℕ) → itemAt 0 s (c .at) ≡ Bad o → refusedWith faultyFile ≡ nextAt s c
     unfolding nextAt followed
     next-none o e = rw (ne-eqb (c .left .0) 0 more, e)
 
-    pub next-past : length s < c .at → refusedWith swapFault ≡ nextAt s c
+    pub next-past : length s < c .at → refusedWith faultyFile ≡ nextAt s c
     next-past h = next-none (c .at) (sym (item-cut 0 s (c .at) (drop (c .at) s) refl (omega (arith, length-drop (c .at) s))))
 
     pub next-record : (e : Entry) → itemAt 0 s (c .at) ≡ Good e → recordHere e (record { at = e .from + e .length .0; left = inRecords (c .left .0 - 1) }) ≡ nextAt s c

@@ -10,8 +10,9 @@ use lib.Seq.{drop-drop, getD-drop}
 use lib.Dec.{ltb}
 use borrow.Author.Tests.{le-ltb, lt-ltb, ltb-true, ltb-false}
 use mathlib.Core.Logic.{_⊎_, inl, inr}
-use Rattle.label.specs.declared.Octets.{Octets}
-use Rattle.label.specs.Fitting.{refused, inOctets}
+use Rattle.numbers.specs.declared.Octets.{Octets}
+use Rattle.numbers.specs.Counts.{inOctets}
+use Rattle.numbers.specs.Answer.{refusedAt}
 use Rattle.number.specs.Groups.{Front, found, none, frontOf}
 use Rattle.swap.specs.declared.kind.Kind.{Kind}
 use Rattle.swap.specs.Record.{Record, kindOf, keyOf, countLimit, fileLimit}
@@ -273,11 +274,11 @@ unfolding readFile
 long-file s h = rw (lt-ltb fileLimit (length s) h)
 
 -- the offset of a refused file: its limit where it is too long, else where the first bad item stands
-pub refused-where : (s : List ℕ) (n : ℕ) (offset : Octets) → verdictOf s ≡ refused n offset → ((fileLimit < length s) × (offset .0 ≡ fileLimit)) ⊎ ((d : Due) × Reached s d (offset .0) × (item d (drop (offset .0) s) ≡ badItem))
+pub refused-where : (s : List ℕ) (n : ℕ) (offset : Octets) → verdictOf s ≡ refusedAt n offset → ((fileLimit < length s) × (offset .0 ≡ fileLimit)) ⊎ ((d : Due) × Reached s d (offset .0) × (item d (drop (offset .0) s) ≡ badItem))
 unfolding verdictOf
 refused-where s n offset e = go (ltb fileLimit (length s)) refl (readFile s) refl e
   where
-    go : (b : Bool) → ltb fileLimit (length s) ≡ b → (out : Outcome) → readFile s ≡ out → answered out ≡ refused n offset → ((fileLimit < length s) × (offset .0 ≡ fileLimit)) ⊎ ((d : Due) × Reached s d (offset .0) × (item d (drop (offset .0) s) ≡ badItem))
+    go : (b : Bool) → ltb fileLimit (length s) ≡ b → (out : Outcome) → readFile s ≡ out → answered out ≡ refusedAt n offset → ((fileLimit < length s) × (offset .0 ≡ fileLimit)) ⊎ ((d : Due) × Reached s d (offset .0) × (item d (drop (offset .0) s) ≡ badItem))
     go b h (listed rs) q r = let z : _≡_ {A = ℕ} 0 1 = cc in let y : ⊥ = omega arith in absurd y
     go true h (faulty o) q r =
         let l : fileLimit < length s = ltb-true fileLimit (length s) h in

@@ -8,7 +8,7 @@ use lib.ListN.{length, getD, take, drop, length-drop}
 use lib.Seq.{drop-drop, getD-drop}
 use lib.Dec.{leb, ltb}
 use borrow.Author.Tests.{lt-ltb, le-ltb, le-leb, lt-leb}
-use Rattle.label.specs.Fitting.{inOctets}
+use Rattle.numbers.specs.Counts.{inOctets}
 use Rattle.number.specs.Groups.{found, none, frontOf}
 use Rattle.swap.specs.declared.kind.Kind.{Kind}
 use Rattle.swap.specs.declared.item.Item.the-variants.{Good, Bad}

@@ -9,7 +9,7 @@ use lib.Seq.{drop-at}
 use lib.Dec.{ltb, lit<}
 use borrow.Author.Tests.{le-ltb, le-leb, ltb-false}
 use Rattle.octets.proofs.Below.{below-drop}
-use Rattle.label.specs.Fitting.{given}
+use Rattle.numbers.specs.Answer.{given}
 use Rattle.number.specs.Groups.{Front, found, none, encoded, frontOf}
 use Rattle.number.proofs.Fronts.{encoded-front}
 use Rattle.number.proofs.Forms.{front-form, own-form}

@@ -7,8 +7,9 @@ use native.Mathlib.Numerals.{add-one}
 use native.Mathlib.Omega.{arith}
 use lib.ListN.{length, getD, take, drop, length-drop, drop-of-length-le}
 use lib.Seq.{drop-drop, drop-cons}
-use Rattle.label.specs.Fitting.{Answer, given, refused, inOctets}
-use Rattle.number.specs.Answers.{swapFault}
+use Rattle.numbers.specs.Counts.{inOctets}
+use Rattle.numbers.specs.Answer.{Answer, given, refusedAt}
+use Rattle.numbers.specs.Table.{faultyFile}
 use Rattle.swap.specs.declared.item.Entry.{Entry}
 use Rattle.swap.specs.declared.item.Item.the-variants.{Good, Bad}
 use Rattle.swap.specs.declared.file.Records.{Records}
@@ -29,7 +30,7 @@ records-good left least at t w n e = rw (e, readRecords)
 
 -- the verdict where k records stand before what was read
 unfoldable pub tallied : ℕ → Outcome → Answer Records
-tallied k (faulty o) = refused swapFault (inOctets o)
+tallied k (faulty o) = refusedAt faultyFile (inOctets o)
 tallied k (listed rs) = given (inRecords (k + length rs))
 
 pub tallied-none : (out : Outcome) → tallied 0 out ≡ answered out
@@ -75,7 +76,7 @@ tally-start s count start h =
     record { counted = omega arith; within = h; due = rw z (sym (tallied-none (readRecords count 0 start (drop start s)))) }
 
 -- a bad item ends it
-pub tally-bad : (s : List ℕ) (count : ℕ) (v : Answer Records) (at left least o : ℕ) → Tallied s count v at left least → 0 < left → itemAt least s at ≡ Bad o → refused swapFault (inOctets o) ≡ v
+pub tally-bad : (s : List ℕ) (count : ℕ) (v : Answer Records) (at left least o : ℕ) → Tallied s count v at left least → 0 < left → itemAt least s at ≡ Bad o → refusedAt faultyFile (inOctets o) ≡ v
 unfolding tallied
 tally-bad s count v at zero least o t h e = let z : ⊥ = omega arith in absurd z
 tally-bad s count v at (suc left) least o t h e =
@@ -105,7 +106,7 @@ tally-good s count v at (suc left) least e t h q =
     }
 
 -- nothing may follow the last record
-pub tally-rest : (s : List ℕ) (count : ℕ) (v : Answer Records) (at least : ℕ) → Tallied s count v at 0 least → at < length s → refused swapFault (inOctets at) ≡ v
+pub tally-rest : (s : List ℕ) (count : ℕ) (v : Answer Records) (at least : ℕ) → Tallied s count v at 0 least → at < length s → refusedAt faultyFile (inOctets at) ≡ v
 unfolding tallied readRecords
 tally-rest s count v at least t h = sym (t .due ∙ rw (drop-cons s at 0 h))
 

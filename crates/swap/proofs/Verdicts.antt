@@ -7,9 +7,10 @@ use native.Mathlib.Omega.{arith}
 use lib.ListN.{length, drop}
 use lib.Dec.{ltb}
 use borrow.Author.Tests.{lt-ltb, le-ltb, le-leb, lt-leb, ltb-true, ltb-false}
-use Rattle.label.specs.declared.Octets.{Octets}
-use Rattle.label.specs.Fitting.{given, refused, inOctets}
-use Rattle.number.specs.Answers.{swapFault}
+use Rattle.numbers.specs.declared.Octets.{Octets}
+use Rattle.numbers.specs.Counts.{inOctets}
+use Rattle.numbers.specs.Answer.{given, refusedAt}
+use Rattle.numbers.specs.Table.{faultyFile}
 use Rattle.number.specs.Groups.{Front, found, none, frontOf}
 use Rattle.swap.specs.declared.file.Records.{Records}
 use Rattle.swap.specs.Record.{Record, fileLimit, countLimit}
@@ -17,16 +18,16 @@ use Rattle.swap.specs.Items.{limited}
 use Rattle.swap.specs.Reading.{Outcome, faulty, listed, verdictOf, readFile, readCounted, readRecords, answered, inRecords}
 
 module _ (s : List ℕ) where
-  pub verdict-long : fileLimit < length s → refused swapFault (inOctets fileLimit) ≡ verdictOf s
+  pub verdict-long : fileLimit < length s → refusedAt faultyFile (inOctets fileLimit) ≡ verdictOf s
   unfolding verdictOf readFile
   verdict-long h = rw (lt-ltb fileLimit (length s) h)
 
   module _ (h : length s ≤ fileLimit) where
-    pub verdict-none : frontOf s ≡ none → refused swapFault (inOctets 0) ≡ verdictOf s
+    pub verdict-none : frontOf s ≡ none → refusedAt faultyFile (inOctets 0) ≡ verdictOf s
     unfolding verdictOf readFile readCounted limited
     verdict-none e = rw (le-ltb fileLimit (length s) h, e)
 
-    pub verdict-many : (n w : ℕ) → frontOf s ≡ found n w → countLimit < n → refused swapFault (inOctets 0) ≡ verdictOf s
+    pub verdict-many : (n w : ℕ) → frontOf s ≡ found n w → countLimit < n → refusedAt faultyFile (inOctets 0) ≡ verdictOf s
     unfolding verdictOf readFile readCounted limited
     verdict-many n w e k = rw (le-ltb fileLimit (length s) h, e, lt-leb n countLimit k)
 
@@ -49,7 +50,7 @@ pub record Accepted (s : List ℕ) (c : Records) : Type 0 where
   pub counted : length records ≡ c .0
 
 module _ (s : List ℕ) (c : Records) (e : verdictOf s ≡ given c) where
-  clash : (n : ℕ) (o : Octets) → refused n o ≡ verdictOf s → ⊥
+  clash : (n : ℕ) (o : Octets) → refusedAt n o ≡ verdictOf s → ⊥
   clash n o q = let z : _≡_ {A = ℕ} 0 1 = cc in omega arith
 
   -- by its length, its count and its records in turn

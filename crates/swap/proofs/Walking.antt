@@ -7,7 +7,8 @@ use native.Mathlib.Omega.{arith}
 use lib.ListN.{length, getD, drop, length-append, length-drop}
 use lib.Seq.{drop-drop, drop-at, drop-append-add, take-at}
 use borrow.Author.Tests.{eq-eqb, ne-eqb, le-leb}
-use Rattle.label.specs.Fitting.{given, inOctets}
+use Rattle.numbers.specs.Counts.{inOctets}
+use Rattle.numbers.specs.Answer.{given}
 use Rattle.number.specs.Groups.{encoded}
 use Rattle.number.proofs.Forms.{front-form}
 use Rattle.swap.specs.declared.item.Entry.{Entry}

@@ -5,8 +5,8 @@ use mathlib.Core.Bool.{cond}
 use mathlib.Core.List.{List, [], _∷_}
 use lib.Dec.{leb, eqb}
 use lib.ListN.{length, getD, take, drop, replicate}
-use Rattle.label.specs.Fitting.{inOctets}
-use Rattle.number.specs.Answers.{swapFault}
+use Rattle.numbers.specs.Counts.{inOctets}
+use Rattle.numbers.specs.Table.{faultyFile}
 use Rattle.number.specs.Groups.{Front, found, none, encoded, frontOf}
 use Rattle.swap.specs.declared.kind.Kind.{Kind}
 use Rattle.swap.specs.declared.item.Entry.{Entry}
@@ -51,10 +51,10 @@ pub data Standing : Type 0 where
 abbrev pub answerOfNext : Next → Standing
 answerOfNext (next.Record e after) = recordHere e after
 answerOfNext next.End = fileEnd
-answerOfNext next.NoRecord = refusedWith swapFault
+answerOfNext next.NoRecord = refusedWith faultyFile
 
 unfoldable pub followed : ℕ → Item → Standing
-followed left (Bad o) = refusedWith swapFault
+followed left (Bad o) = refusedWith faultyFile
 followed left (Good e) = recordHere e (record { at = e .from + e .length .0; left = inRecords (left - 1) })
 
 -- the record that stands at a cursor, judged by its own items alone: 18 where none does

@@ -4,8 +4,9 @@ use mathlib.Core.Bool.{cond}
 use mathlib.Core.List.{List, [], _∷_}
 use lib.Dec.{ltb}
 use lib.ListN.{length, take, drop}
-use Rattle.label.specs.Fitting.{Answer, given, refused, inOctets}
-use Rattle.number.specs.Answers.{swapFault}
+use Rattle.numbers.specs.Counts.{inOctets}
+use Rattle.numbers.specs.Answer.{Answer, given, refusedAt}
+use Rattle.numbers.specs.Table.{faultyFile}
 use Rattle.number.specs.Groups.{Front, found, none, frontOf}
 use Rattle.swap.specs.declared.file.Records.{Records}
 use Rattle.swap.specs.declared.file.Verdict.{Verdict}
@@ -45,11 +46,11 @@ inRecords count = record { 0 = count }
 -- the number and values of each case
 abbrev pub answerOfVerdict : Verdict → Answer Records
 answerOfVerdict (Accepted count) = given count
-answerOfVerdict (Fault offset) = refused swapFault offset
+answerOfVerdict (Fault offset) = refusedAt faultyFile offset
 
 -- 01, Swap file: "A fault is 18 with an offset"; an accepted file has its count of records
 abbrev pub answered : Outcome → Answer Records
-answered (faulty o) = refused swapFault (inOctets o)
+answered (faulty o) = refusedAt faultyFile (inOctets o)
 answered (listed rs) = given (inRecords (length rs))
 
 unfoldable pub verdictOf : List ℕ → Answer Records

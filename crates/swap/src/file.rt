@@ -6,8 +6,8 @@ ghost use Rattle.swap.specs.Reading.{answerOfVerdict, verdictOf, answere
 use crate::item::Item;
 use crate::item::item_at;
 use crate::item::key;
-use label::Octets;
 use number::Reading;
+use numbers::Octets;
 
 // A count of records.
 pub struct Records(pub usize);

@@ -9,8 +9,8 @@ use crate::kind::is_acceptable;
 use crate::kind::kind_of;
 use crate::kind::known;
 use crate::kind::length_limit;
-use label::Octets;
 use number::Reading;
+use numbers::Octets;
 
 // Where a record stands in a file: from at on, its data from another offset on.
 pub struct Entry {

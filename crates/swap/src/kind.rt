@@ -2,8 +2,8 @@
 ghost use mathlib.Core.Path.{_≡_};
 ghost use Rattle.label.specs.Utf8.{wellFormed};
 ghost use Rattle.swap.specs.Record.{kindOctet, knownKind, kindOf, lengthLimit, acceptable};
-use label::Octets;
 use label::Text;
+use numbers::Octets;
 
 // What a record holds: octets of any sort, or a label's text.
 pub enum Kind {

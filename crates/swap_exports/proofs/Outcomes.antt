@@ -3,9 +3,9 @@ use Prim.Native.Nat.{ℕ}
 use mathlib.Core.Path.{_≡_, ap, _∙_}
 use mathlib.Core.Bool.{true}
 use mathlib.Core.List.{List}
-use Rattle.label.specs.declared.Octets.{Octets}
-use Rattle.label.specs.Fitting.{Answer, given, refused}
-use Rattle.number.specs.Answers.{swapFault}
+use Rattle.numbers.specs.declared.Octets.{Octets}
+use Rattle.numbers.specs.Answer.{Answer, given, refusedAt}
+use Rattle.numbers.specs.Table.{faultyFile}
 use Rattle.swap.specs.declared.file.Records.{Records}
 use Rattle.swap.specs.declared.item.Entry.{Entry}
 use Rattle.swap.specs.declared.cursor.Cursor.{Cursor}
@@ -25,7 +25,7 @@ module _ (a : Answer Records) (records offset : ℕ) where
   unfolding judgedAs
   judged-given c e = rw (← e)
 
-  pub judged-refused : (n : ℕ) (o : Octets) → refused n o ≡ a → record { number = n; records = records; offset = o .0 } ≡ judgedAs a records offset
+  pub judged-refused : (n : ℕ) (o : Octets) → refusedAt n o ≡ a → record { number = n; records = records; offset = o .0 } ≡ judgedAs a records offset
   unfolding judgedAs
   judged-refused n o e = rw (← e)
 
@@ -34,7 +34,7 @@ module _ (a : Next) (s : List ℕ) (b : Shown) where
   unfolding shown
   shown-end e = rw e
 
-  pub shown-none : a ≡ next.NoRecord → nothing swapFault b ≡ shown (answerOfNext a) s b
+  pub shown-none : a ≡ next.NoRecord → nothing faultyFile b ≡ shown (answerOfNext a) s b
   unfolding shown
   shown-none e = rw e
 
@@ -64,6 +64,6 @@ module _ (x : Outcome) (heads contents : List ℕ) (records octets offset : ℕ)
   unfolding addedAs countsAs
   added-kept list e = rw (← is, e)
 
-  pub added-fault : (o : Octets) → answer ≡ Fault o → record { number = swapFault; heads = heads; contents = contents; records = records; octets = octets; offset = o .0 } ≡ addedAs x records octets offset
+  pub added-fault : (o : Octets) → answer ≡ Fault o → record { number = faultyFile; heads = heads; contents = contents; records = records; octets = octets; offset = o .0 } ≡ addedAs x records octets offset
   unfolding addedAs countsAs
   added-fault o e = rw (← is, e)

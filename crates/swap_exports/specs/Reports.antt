@@ -2,7 +2,7 @@
 use Prim.Native.Nat.{ℕ}
 use mathlib.Core.Bool.{Bool, true, false}
 use mathlib.Core.List.{List}
-use Rattle.label.specs.Fitting.{Answer, given, refused}
+use Rattle.numbers.specs.Answer.{Answer, given, refused, refusedAt}
 use Rattle.swap.specs.declared.file.Records.{Records}
 use Rattle.swap.specs.Record.{kindOctet}
 use Rattle.swap.specs.Cursor.{Standing, recordHere, fileEnd, refusedWith, adsOf}
@@ -18,7 +18,8 @@ pub record Verdict : Type 0 where
 -- 0 with the count of records, or 18 with the offset; the other cell as it was
 unfoldable pub judgedAs : Answer Records → ℕ → ℕ → Verdict
 judgedAs (given count) records offset = record { number = 0; records = count .0; offset = offset }
-judgedAs (refused n o) records offset = record { number = n; records = records; offset = o .0 }
+judgedAs (refused n) records offset = record { number = n; records = records; offset = offset }
+judgedAs (refusedAt n o) records offset = record { number = n; records = records; offset = o .0 }
 
 -- the number and the cells of a call that asks for a record: the cursor, the mark, and where the record stands
 pub record Shown : Type 0 where
@@ -77,7 +78,9 @@ pub record Added : Type 0 where
 unfoldable pub countsAs : Answer RecordList → List ℕ → List ℕ → ℕ → ℕ → ℕ → Added
 countsAs (given next) heads contents records octets offset =
     record { number = 0; heads = heads; contents = contents; records = next .records .0; octets = next .octets .0; offset = offset }
-countsAs (refused n o) heads contents records octets offset =
+countsAs (refused n) heads contents records octets offset =
+    record { number = n; heads = heads; contents = contents; records = records; octets = octets; offset = offset }
+countsAs (refusedAt n o) heads contents records octets offset =
     record { number = n; heads = heads; contents = contents; records = records; octets = octets; offset = o .0 }
 
 -- 0 with the next list's counts, or 18 with the offset and the counts as they were

@@ -1,10 +1,10 @@
 // Adding a record to a list that the writer takes.
 ghost use mathlib.Core.Path.{_≡_};
-ghost use Rattle.label.specs.Fitting.{inOctets};
+ghost use Rattle.numbers.specs.Counts.{inOctets};
 ghost use Rattle.swap.specs.Reading.{inRecords};
 ghost use Rattle.swap_list.specs.Adding.{recordOf, adding};
 ghost use Rattle.swap_exports.specs.Reports.{addedAs};
-use label::Octets;
+use numbers::Octets;
 use swap::Records;
 use swap_list::Added;
 use swap_list::RecordList;

@@ -7,7 +7,7 @@ use native.Mathlib.Omega.{arith}
 use lib.ListN.{length, getD, length-append}
 use lib.Dec.{leb, ltb}
 use borrow.Author.Tests.{le-leb, ltb-true, ltb-false}
-use Rattle.label.specs.Fitting.{given}
+use Rattle.numbers.specs.Answer.{given}
 use Rattle.number.specs.Groups.{encoded}
 use Rattle.number.proofs.Laying.{width-one, width-two}
 use Rattle.swap.specs.Record.{Record, Sound, OfOctets, Each, Rising, key}

@@ -4,7 +4,8 @@ use mathlib.Core.Path.{_≡_, refl, ap, _∙_}
 use mathlib.Core.List.{List, []}
 use native.Mathlib.Omega.{arith}
 use lib.ListN.{length, take}
-use Rattle.label.specs.Fitting.{Answer, given, refused, inOctets}
+use Rattle.numbers.specs.Counts.{inOctets}
+use Rattle.numbers.specs.Answer.{Answer, given, refused, refusedAt}
 use Rattle.octets.specs.Splice.{fronted}
 use Rattle.octets.proofs.Splice.{take-fronted}
 use Rattle.number.specs.Groups.{encoded, groups}
@@ -59,7 +60,8 @@ module _ (l : Lent) (rs : List Record) (h : Holds l rs) (r : Record) (o : OfOcte
     where
       go : (v : Answer Records) → verdictOf (encode (placed r rs)) ≡ v → Holds (afterAdd l r) (kept rs r)
       go (given c) q = rw (next-add, q) (holds-taken (placed r rs) c (l .heads) (l .contents) (placed-octets r o (all-octets (h .within .sound))) q)
-      go (refused n e) q = rw (next-add, q) h
+      go (refused n) q = rw (next-add, q) h
+      go (refusedAt n e) q = rw (next-add, q) h
 
   -- an add is accepted exactly where the records alone say so
   kept-first : (qs : List Record) → inOrder (kept rs r) qs ≡ inOrder rs (acceptedBy (adding (l .list) r (l .heads) (l .contents) .answer) r qs)
@@ -68,7 +70,8 @@ module _ (l : Lent) (rs : List Record) (h : Holds l rs) (r : Record) (o : OfOcte
     where
       go : (v : Answer Records) → verdictOf (encode (placed r rs)) ≡ v → inOrder (kept rs r) qs ≡ inOrder rs (acceptedBy (adding (l .list) r (l .heads) (l .contents) .answer) r qs)
       go (given c) q = rw (next-add, q)
-      go (refused n e) q = rw (next-add, q)
+      go (refused n) q = rw (next-add, q)
+      go (refusedAt n e) q = rw (next-add, q)
 
 -- the list holds the records that are kept of those offered
 pub holds-all : (l : Lent) (rs : List Record) {more : List Record} → Holds l rs → Each OfOctets more → Holds (afterAdds l more) (keptOf rs more)

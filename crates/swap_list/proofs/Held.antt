@@ -9,8 +9,9 @@ use lib.ListN.{length, take, drop, length-append, length-drop}
 use lib.Dec.{leb, ltb}
 use lib.Seq.{length-take-le, take-all}
 use borrow.Author.Tests.{leb-true, leb-false}
-use Rattle.label.specs.Fitting.{refused, inOctets}
-use Rattle.number.specs.Answers.{swapFault}
+use Rattle.numbers.specs.Counts.{inOctets}
+use Rattle.numbers.specs.Answer.{refusedAt}
+use Rattle.numbers.specs.Table.{faultyFile}
 use Rattle.number.specs.Groups.{encoded, groups}
 use Rattle.swap.specs.Record.{Record, keyOf}
 use Rattle.swap.proofs.Verdicts.{verdict-long}
@@ -59,7 +60,7 @@ pub held-contents : (n : ℕ) (s : List ℕ) → length s ≡ 65536 → take (mi
 held-contents n s l = rw (one-mul, one-mul) at (held 1 65536 n s l)
 
 -- data that does not fit makes a file too long
-pub too-long : (list : RecordList) (r : Record) (heads contents : List ℕ) (end : ℕ) → length contents ≡ 65536 → end ≡ min (list .octets .0) 65536 → 65536 - end ≤ length (r .content) → record { answer = refused swapFault (inOctets 65536); heads = heads; contents = contents } ≡ adding list r heads contents
+pub too-long : (list : RecordList) (r : Record) (heads contents : List ℕ) (end : ℕ) → length contents ≡ 65536 → end ≡ min (list .octets .0) 65536 → 65536 - end ≤ length (r .content) → record { answer = refusedAt faultyFile (inOctets 65536); heads = heads; contents = contents } ≡ adding list r heads contents
 unfolding adding addingHead contentsWith
 too-long list r heads contents end l e h =
     let front : List ℕ = take (list .octets .0) contents in
@@ -67,7 +68,7 @@ too-long list r heads contents end l e h =
     let hs : List ℕ = headsWith (headOf r) (take (headSize * list .records .0) heads) in
     let from : ℕ = placeOf (keyOf (take 7 (headOf r))) (take (headSize * list .records .0) heads) .from in
     let ds : List ℕ = inserted front from (r .content) in
-    taken-refused hs ds heads contents swapFault (inOctets 65536) (verdict-long (fileOf hs ds) (omega (arith, file-long hs ds, length-inserted front from (r .content), known, e)))
+    taken-refused hs ds heads contents faultyFile (inOctets 65536) (verdict-long (fileOf hs ds) (omega (arith, file-long hs ds, length-inserted front from (r .content), known, e)))
 
 -- the list's parts are those that were counted
 pub added : (list : RecordList) (r : Record) (heads contents head : List ℕ) (n m : ℕ) → length heads ≡ 40960 → length contents ≡ 65536 → n ≡ min (list .records .0) 4096 → m ≡ min (list .octets .0) 65536 → head ≡ headOf r → addingHead head (r .content) (take (10 * n) heads) (take m contents) heads contents ≡ adding list r heads contents

@@ -4,8 +4,9 @@ use mathlib.Core.Path.{_≡_, sym}
 use mathlib.Core.List.{List}
 use native.Mathlib.Omega.{arith}
 use lib.ListN.{length, getD, take}
-use Rattle.label.specs.declared.Octets.{Octets}
-use Rattle.label.specs.Fitting.{given, refused, inOctets}
+use Rattle.numbers.specs.declared.Octets.{Octets}
+use Rattle.numbers.specs.Counts.{inOctets}
+use Rattle.numbers.specs.Answer.{given, refusedAt}
 use Rattle.octets.specs.Splice.{spliced}
 use Rattle.octets.proofs.Splice.{spliced-front}
 use Rattle.swap.specs.declared.file.Records.{Records}
@@ -17,7 +18,7 @@ use Rattle.swap_list.specs.declared.place.Place.{Place}
 use Rattle.swap_list.specs.Adding.{placeOf, inserted, headsWith, contentsWith, takenOver, judgedAdding, addingHead}
 
 module _ (more all heads contents : List ℕ) where
-  pub taken-refused : (n : ℕ) (o : Octets) → refused n o ≡ verdictOf (fileOf more all) → record { answer = refused n o; heads = heads; contents = contents } ≡ takenOver more all heads contents
+  pub taken-refused : (n : ℕ) (o : Octets) → refusedAt n o ≡ verdictOf (fileOf more all) → record { answer = refusedAt n o; heads = heads; contents = contents } ≡ takenOver more all heads contents
   unfolding takenOver judgedAdding
   taken-refused n o e = rw (← e)
 

@@ -6,8 +6,9 @@ use mathlib.Core.List.{List, _++_}
 use native.Mathlib.Omega.{arith}
 use lib.ListN.{length, take, drop}
 use lib.Dec.{leb, lit<}
-use Rattle.label.specs.declared.Octets.{Octets}
-use Rattle.label.specs.Fitting.{Answer, given, refused, inOctets}
+use Rattle.numbers.specs.declared.Octets.{Octets}
+use Rattle.numbers.specs.Counts.{inOctets}
+use Rattle.numbers.specs.Answer.{Answer, given, refused, refusedAt}
 use Rattle.octets.proofs.Splice.{take-fronted}
 use Rattle.octets.proofs.Below.{Below, below-append, below-take, below-drop}
 use Rattle.swap.specs.declared.file.Records.{Records}
@@ -41,8 +42,13 @@ unfolding takenOver judgedAdding
 taken hs cs heads contents next b e = go (verdictOf (fileOf hs cs)) refl
   where
     go : (v : Answer Records) → verdictOf (fileOf hs cs) ≡ v → verdictOf (fileOf (headsOfList next (takenOver hs cs heads contents)) (contentsOfList next (takenOver hs cs heads contents))) ≡ given (next .records)
-    go (refused n o) q =
-        let r : refused n o ≡ given next = rw q at e in
+    go (refused n) q =
+        let r : refused n ≡ given next = rw q at e in
+        let z : _≡_ {A = ℕ} 0 1 = cc in
+        let y : ⊥ = omega arith in
+        absurd y
+    go (refusedAt n o) q =
+        let r : refusedAt n o ≡ given next = rw q at e in
         let z : _≡_ {A = ℕ} 0 1 = cc in
         let y : ⊥ = omega arith in
         absurd y

@@ -4,9 +4,10 @@ use mathlib.Core.Bool.{cond}
 use mathlib.Core.List.{List, _++_}
 use lib.Dec.{leb}
 use lib.ListN.{length, take, drop}
-use Rattle.label.specs.Fitting.{Answer, given, refused, inOctets}
+use Rattle.numbers.specs.Counts.{inOctets}
+use Rattle.numbers.specs.Answer.{Answer, given, refused, refusedAt}
 use Rattle.octets.specs.Splice.{fronted}
-use Rattle.number.specs.Answers.{swapFault}
+use Rattle.numbers.specs.Table.{faultyFile}
 use Rattle.swap.specs.declared.file.Records.{Records}
 use Rattle.swap.specs.Record.{Record, keyOf}
 use Rattle.swap.specs.Reading.{verdictOf, inRecords}
@@ -56,13 +57,14 @@ pub record Outcome : Type 0 where
 -- the number and values of each case
 abbrev pub answerOfAdded : Added → Answer RecordList
 answerOfAdded (Kept list) = given list
-answerOfAdded (Fault offset) = refused swapFault offset
+answerOfAdded (Fault offset) = refusedAt faultyFile offset
 
 -- new heads and contents go to the front of the arrays where their file is accepted; else both arrays stay
 unfoldable pub judgedAdding : Answer Records → List ℕ → List ℕ → List ℕ → List ℕ → Outcome
 judgedAdding (given count) newHeads newContents heads contents =
     record { answer = given (record { records = count; octets = inOctets (length newContents) }); heads = fronted newHeads heads; contents = fronted newContents contents }
-judgedAdding (refused n offset) newHeads newContents heads contents = record { answer = refused n offset; heads = heads; contents = contents }
+judgedAdding (refused n) newHeads newContents heads contents = record { answer = refused n; heads = heads; contents = contents }
+judgedAdding (refusedAt n offset) newHeads newContents heads contents = record { answer = refusedAt n offset; heads = heads; contents = contents }
 
 -- by what the reader says of the file that the writer would make of them
 unfoldable pub takenOver : List ℕ → List ℕ → List ℕ → List ℕ → Outcome

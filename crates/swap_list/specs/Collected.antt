@@ -3,7 +3,8 @@ use Prim.Native.Nat.{ℕ, _*_}
 use mathlib.Core.Path.{_≡_}
 use mathlib.Core.List.{List, [], _∷_}
 use lib.ListN.{length, take}
-use Rattle.label.specs.Fitting.{Answer, given, refused, inOctets}
+use Rattle.numbers.specs.Counts.{inOctets}
+use Rattle.numbers.specs.Answer.{Answer, given, refused, refusedAt}
 use Rattle.swap.specs.declared.file.Records.{Records}
 use Rattle.swap.specs.Record.{Record}
 use Rattle.swap.specs.Encoding.{encode, Within}
@@ -26,7 +27,8 @@ begun heads contents = record { list = empty; heads = heads; contents = contents
 -- the list for the next call: the one given back, or the same where the add was refused
 abbrev pub listAfter : RecordList → Answer RecordList → RecordList
 listAfter list (given next) = next
-listAfter list (refused n offset) = list
+listAfter list (refused n) = list
+listAfter list (refusedAt n offset) = list
 
 unfoldable pub afterAdd : Lent → Record → Lent
 afterAdd l r =
@@ -40,7 +42,8 @@ afterAdds l (r ∷ rs) = afterAdds (afterAdd l r) rs
 -- 01, Swap file: records that would make a faulty file are refused; else the record is kept, in its place
 abbrev pub keptBy : Answer Records → Record → List Record → List Record
 keptBy (given count) r rs = placed r rs
-keptBy (refused n offset) r rs = rs
+keptBy (refused n) r rs = rs
+keptBy (refusedAt n offset) r rs = rs
 
 unfoldable pub kept : List Record → Record → List Record
 kept rs r = keptBy (verdictOf (encode (placed r rs))) r rs
@@ -68,7 +71,8 @@ pub record Holds (l : Lent) (rs : List Record) : Type 0 where
 -- the records that the calls accepted, in the order of the calls
 abbrev pub acceptedBy : Answer RecordList → Record → List Record → List Record
 acceptedBy (given next) r rs = r ∷ rs
-acceptedBy (refused n offset) r rs = rs
+acceptedBy (refused n) r rs = rs
+acceptedBy (refusedAt n offset) r rs = rs
 
 unfoldable pub accepted : Lent → List Record → List Record
 accepted l [] = []

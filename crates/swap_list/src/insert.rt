@@ -8,7 +8,7 @@ use crate::Added;
 use crate::RecordList;
 use crate::place::at_most;
 use crate::place::place_of;
-use label::Octets;
+use numbers::Octets;
 use swap::Verdict;
 use swap::item::key;
 

@@ -7,7 +7,7 @@ ghost use Rattle.swap_list.specs.Adding.{empty, recordOf, answerOfAdded,
 pub mod insert;
 pub mod place;
 
-use label::Octets;
+use numbers::Octets;
 use swap::Kind;
 use swap::Records;
 

@@ -4,7 +4,7 @@ use mathlib.Core.Path.{_≡_, refl, sym, _∙_}
 use mathlib.Core.Bool.{Bool, true, false}
 use mathlib.Core.List.{List, _∷_}
 use lib.ListN.{length, getD}
-use Rattle.label.specs.Fitting.{given}
+use Rattle.numbers.specs.Answer.{given}
 use Rattle.octets.specs.Part.{same}
 use Rattle.swap.specs.declared.cursor.Cursor.{Cursor}
 use Rattle.swap.specs.Record.{Record}

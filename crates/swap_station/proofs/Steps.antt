@@ -6,7 +6,7 @@ use mathlib.Core.List.{List}
 use native.Mathlib.Omega.{arith}
 use borrow.Author.Tests.{eq-eqb, ne-eqb}
 use Rattle.octets.specs.Part.{same}
-use Rattle.number.specs.Answers.{swapFault}
+use Rattle.numbers.specs.Table.{faultyFile}
 use Rattle.swap.specs.declared.item.Entry.{Entry}
 use Rattle.swap.specs.declared.item.Item.{Item}
 use Rattle.swap.specs.declared.item.Item.the-variants.{Good, Bad}
@@ -29,7 +29,7 @@ module _ (s : List ℕ) (c : Cursor) where
           absurd y
       go (suc l) p (Bad o) q =
           let m : c .left .0 ≡ 0 → ⊥ = λ w. omega arith in
-          let r : refusedWith swapFault ≡ recordHere e after = rw (ne-eqb (c .left .0) 0 m, q) at h in
+          let r : refusedWith faultyFile ≡ recordHere e after = rw (ne-eqb (c .left .0) 0 m, q) at h in
           let z : _≡_ {A = ℕ} 0 1 = cc in
           let y : ⊥ = omega arith in
           absurd y
@@ -49,13 +49,13 @@ module _ (s : List ℕ) (c : Cursor) where
         go zero = refl
         go (suc k) = rw h
 
-    pub first-none : nextAt s c ≡ refusedWith swapFault → refusedWith swapFault ≡ nextFor ads s c
+    pub first-none : nextAt s c ≡ refusedWith faultyFile → refusedWith faultyFile ≡ nextFor ads s c
     unfolding nextFor firstOf chosen nextAt
     first-none h = go (c .left .0) refl
       where
-        go : (k : ℕ) → c .left .0 ≡ k → refusedWith swapFault ≡ firstOf k ads s c
+        go : (k : ℕ) → c .left .0 ≡ k → refusedWith faultyFile ≡ firstOf k ads s c
         go zero p =
-            let r : fileEnd ≡ refusedWith swapFault = rw (eq-eqb (c .left .0) 0 p) at h in
+            let r : fileEnd ≡ refusedWith faultyFile = rw (eq-eqb (c .left .0) 0 p) at h in
             let z : _≡_ {A = ℕ} 0 1 = cc in
             let y : ⊥ = omega arith in
             absurd y

@@ -8,8 +8,9 @@ use lib.ListN.{length, getD, take, drop, length-append, length-drop}
 use lib.Seq.{drop-drop, drop-at}
 use mathlib.Core.Bool.{Bool, true, false}
 use lib.Dec.{ltb, lit<}
-use Rattle.label.specs.Fitting.{Answer, given, refused, inOctets}
-use Rattle.number.specs.Answers.{swapFault}
+use Rattle.numbers.specs.Counts.{inOctets}
+use Rattle.numbers.specs.Answer.{Answer, given, refusedAt}
+use Rattle.numbers.specs.Table.{faultyFile}
 use Rattle.number.specs.Groups.{encoded}
 use Rattle.number.proofs.Fronts.{front-encoded}
 use Rattle.swap.specs.declared.file.Records.{Records}
@@ -67,7 +68,7 @@ module _ (hs ds : List ℕ) (octets : (i : ℕ) → getD hs i 0 < 256) (count : 
     within : headLength (drop head hs) < 2 ^ 32
     within = omega (arith, length-small (drop head hs) (below-drop 256 (lit< tt) head hs octets))
 
-    bad-head : (o : ℕ) → headJudged least (drop head hs) (drop from ds) ≡ Bad o → refused swapFault (inOctets (at + o)) ≡ v
+    bad-head : (o : ℕ) → headJudged least (drop head hs) (drop from ds) ≡ Bad o → refusedAt faultyFile (inOctets (at + o)) ≡ v
     unfolding tallied
     bad-head o e =
         let B : List ℕ = bodyOf (suc left) (drop head hs) (drop from ds) in
@@ -95,7 +96,7 @@ module _ (hs ds : List ℕ) (octets : (i : ℕ) → getD hs i 0 < 256) (count : 
               ∙ rw (k, next, body-key left H D ten within, add-one);
         }
 
-  pub judging-bad : (left least head from o : ℕ) → Judging hs ds count v at left least head from → 0 < left → headJudged least (drop head hs) (drop from ds) ≡ Bad o → refused swapFault (inOctets (at + o)) ≡ v
+  pub judging-bad : (left least head from o : ℕ) → Judging hs ds count v at left least head from → 0 < left → headJudged least (drop head hs) (drop from ds) ≡ Bad o → refusedAt faultyFile (inOctets (at + o)) ≡ v
   judging-bad zero least head from o j h e = let z : ⊥ = omega arith in absurd z
   judging-bad (suc left) least head from o j h e = bad-head left least head from j o e
 
@@ -108,7 +109,7 @@ module _ (hs ds : List ℕ) (octets : (i : ℕ) → getD hs i 0 < 256) (count : 
   rest-long : (head from : ℕ) → length (drop head hs ++ drop from ds) ≡ (length hs - head) + (length ds - from)
   rest-long head from = rw (length-append, length-drop, length-drop)
 
-  pub judging-left-over : (least head from : ℕ) → Judging hs ds count v at 0 least head from → 0 < (length hs - head) + (length ds - from) → refused swapFault (inOctets at) ≡ v
+  pub judging-left-over : (least head from : ℕ) → Judging hs ds count v at 0 least head from → 0 < (length hs - head) + (length ds - from) → refusedAt faultyFile (inOctets at) ≡ v
   unfolding tallied bodyOf
   judging-left-over least head from j h =
       sym (j .due ∙ rw (rest-bad least at (drop head hs ++ drop from ds) (omega (arith, rest-long head from))))
@@ -121,7 +122,7 @@ module _ (hs ds : List ℕ) (octets : (i : ℕ) → getD hs i 0 < 256) (count : 
 
 -- the verdict on the would-be file, by the count of its heads
 module _ (hs ds : List ℕ) (small : length (fileOf hs ds) ≤ fileLimit) where
-  pub file-many : countLimit < length hs / 10 → refused swapFault (inOctets 0) ≡ verdictOf (fileOf hs ds)
+  pub file-many : countLimit < length hs / 10 → refusedAt faultyFile (inOctets 0) ≡ verdictOf (fileOf hs ds)
   unfolding fileOf
   file-many h = go (ltb n (2 ^ 32)) refl
     where
@@ -131,7 +132,7 @@ module _ (hs ds : List ℕ) (small : length (fileOf hs ds) ≤ fileLimit) where
       F : List ℕ
       F = encoded n ++ bodyOf n hs ds
 
-      go : (b : Bool) → ltb n (2 ^ 32) ≡ b → refused swapFault (inOctets 0) ≡ verdictOf F
+      go : (b : Bool) → ltb n (2 ^ 32) ≡ b → refusedAt faultyFile (inOctets 0) ≡ verdictOf F
       go true e = verdict-many F small n (length (encoded n)) (front-encoded n (bodyOf n hs ds) ∙ rw e) h
       go false e = verdict-none F small (front-encoded n (bodyOf n hs ds) ∙ rw e)
 

@@ -9,7 +9,7 @@ use lib.Dec.{lit<}
 use Rattle.octets.specs.Splice.{spliced, fronted}
 use Rattle.octets.proofs.Splice.{spliced-front, spliced-next, spliced-after, length-fronted}
 use Rattle.octets.proofs.Below.{below-drop}
-use Rattle.label.specs.Fitting.{given}
+use Rattle.numbers.specs.Answer.{given}
 use Rattle.number.specs.Groups.{encoded, octetsAt}
 use Rattle.number.proofs.Forms.{own-form}
 use Rattle.swap.specs.declared.file.Records.{Records}

@@ -7,10 +7,11 @@ use native.Mathlib.Omega.{arith}
 use lib.ListN.{length}
 use lib.Dec.{ltb}
 use borrow.Author.Tests.{le-leb, lt-leb, ltb-true, ltb-false}
-use Rattle.label.specs.declared.Octets.{Octets}
-use Rattle.label.specs.Fitting.{given, refused, inOctets}
+use Rattle.numbers.specs.declared.Octets.{Octets}
+use Rattle.numbers.specs.Counts.{inOctets}
+use Rattle.numbers.specs.Answer.{given, refusedAt}
 use Rattle.octets.specs.Splice.{fronted}
-use Rattle.number.specs.Answers.{tooShort}
+use Rattle.numbers.specs.Table.{wrongLength}
 use Rattle.swap.specs.declared.file.Records.{Records}
 use Rattle.swap.specs.Record.{fileLimit}
 use Rattle.swap.specs.Reading.{verdictOf}
@@ -19,12 +20,12 @@ use Rattle.swap_write.specs.Heads.{fileOf}
 use Rattle.swap_write.specs.Writing.{writing, judgedWriting, laid, wrote, short, faulty, sizeOf}
 
 module _ (hs ds b : List ℕ) where
-  pub writing-refused : (n : ℕ) (o : Octets) → refused n o ≡ verdictOf (fileOf hs ds) → record { answer = faulty n o; buffer = b } ≡ writing hs ds b
+  pub writing-refused : (n : ℕ) (o : Octets) → refusedAt n o ≡ verdictOf (fileOf hs ds) → record { answer = faulty n o; buffer = b } ≡ writing hs ds b
   unfolding writing judgedWriting
   writing-refused n o e = rw (← e)
 
   module _ (c : Records) (e : given c ≡ verdictOf (fileOf hs ds)) where
-    pub writing-short : length b < length (fileOf hs ds) → record { answer = short tooShort; buffer = b } ≡ writing hs ds b
+    pub writing-short : length b < length (fileOf hs ds) → record { answer = short wrongLength; buffer = b } ≡ writing hs ds b
     unfolding writing judgedWriting laid
     writing-short h = rw (← e, lt-leb (length (fileOf hs ds)) (length b) h)
 

@@ -6,7 +6,7 @@ use native.Mathlib.Omega.{arith}
 use lib.ListN.{length, getD, take, drop, length-append}
 use lib.Seq.{take-at, drop-at, getD-drop}
 use borrow.Author.Tests.{le-leb}
-use Rattle.label.specs.Fitting.{inOctets}
+use Rattle.numbers.specs.Counts.{inOctets}
 use Rattle.octets.specs.Splice.{fronted}
 use Rattle.octets.proofs.Splice.{take-fronted}
 use Rattle.number.specs.Groups.{encoded}

@@ -4,10 +4,11 @@ use mathlib.Core.Bool.{cond}
 use mathlib.Core.List.{List}
 use lib.Dec.{leb, ltb}
 use lib.ListN.{length}
-use Rattle.label.specs.declared.Octets.{Octets}
-use Rattle.label.specs.Fitting.{Answer, given, refused, inOctets}
+use Rattle.numbers.specs.declared.Octets.{Octets}
+use Rattle.numbers.specs.Counts.{inOctets}
+use Rattle.numbers.specs.Answer.{Answer, given, refusedAt}
 use Rattle.octets.specs.Splice.{fronted}
-use Rattle.number.specs.Answers.{swapFault, tooShort}
+use Rattle.numbers.specs.Table.{faultyFile, wrongLength}
 use Rattle.swap.specs.declared.file.Records.{Records}
 use Rattle.swap.specs.Record.{fileLimit}
 use Rattle.swap.specs.Reading.{verdictOf}
@@ -26,8 +27,8 @@ pub data Writing : Type 0 where
 -- the number and values of each case
 abbrev pub answerOfWritten : Written → Writing
 answerOfWritten (Whole length) = wrote length
-answerOfWritten (Fault offset) = faulty swapFault offset
-answerOfWritten Short = short tooShort
+answerOfWritten (Fault offset) = faulty faultyFile offset
+answerOfWritten Short = short wrongLength
 
 -- the answer, and the buffer after the call
 pub record Outcome : Type 0 where
@@ -39,12 +40,12 @@ unfoldable pub laid : List ℕ → List ℕ → Outcome
 laid file buffer =
     cond (leb (length file) (length buffer))
     (record { answer = wrote (inOctets (length file)); buffer = fronted file buffer })
-    (record { answer = short tooShort; buffer = buffer })
+    (record { answer = short wrongLength; buffer = buffer })
 
 -- 01, Swap file: 18 and the reader's offset, "then a buffer too short for the file with 17; both leave the buffer"
 unfoldable pub judgedWriting : Answer Records → List ℕ → List ℕ → Outcome
 judgedWriting (given count) file buffer = laid file buffer
-judgedWriting (refused n offset) file buffer = record { answer = faulty n offset; buffer = buffer }
+judgedWriting (refusedAt n offset) file buffer = record { answer = faulty n offset; buffer = buffer }
 
 unfoldable pub writing : List ℕ → List ℕ → List ℕ → Outcome
 writing heads contents buffer = judgedWriting (verdictOf (fileOf heads contents)) (fileOf heads contents) buffer

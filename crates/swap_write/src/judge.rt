@@ -8,7 +8,7 @@ ghost use Rattle.swap_write.specs.Heads.{bodyOf, fileOf};
 ghost use Rattle.swap_write.specs.Heading.{headJudged, dataJudged};
 use crate::size::head_length;
 use crate::size::width_of;
-use label::Octets;
+use numbers::Octets;
 use swap::Records;
 use swap::Verdict;
 use swap::item::key;

@@ -3,7 +3,7 @@ ghost use mathlib.Core.Path.{_≡_};
 ghost use mathlib.Core.List.{_++_};
 ghost use Prim.Native.Nat.{_+_, _≤_};
 ghost use lib.ListN.{length};
-ghost use Rattle.label.specs.Fitting.{given};
+ghost use Rattle.numbers.specs.Answer.{given};
 ghost use Rattle.number.specs.Groups.{encoded};
 ghost use Rattle.octets.specs.Splice.{spliced, fronted};
 ghost use Rattle.swap.specs.declared.file.Records.{Records};

@@ -8,7 +8,7 @@ pub mod judge;
 pub mod lay;
 pub mod size;
 
-use label::Octets;
+use numbers::Octets;
 use size::Size;
 use swap::Verdict;
 

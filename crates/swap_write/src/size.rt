@@ -4,7 +4,7 @@ ghost use lib.ListN.{length};
 ghost use Rattle.number.specs.Groups.{encoded};
 ghost use Rattle.swap_write.specs.Heads.{headLength, fileOf};
 ghost use Rattle.swap_write.specs.Writing.{sizeOf, sizeAfter};
-use label::Octets;
+use numbers::Octets;
 
 // The length of a file within the limit, or that it is too long.
 pub enum Size {

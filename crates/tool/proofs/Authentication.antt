@@ -7,7 +7,7 @@ use mathlib.Core.Logic.{_⊎_, inl, inr}
 use Rattle.frame.specs.declared.codes.Command.{Command}
 use Rattle.frame.specs.declared.codes.Command.the-variants.{Aut}
 use Rattle.frame.specs.Content.{fieldsOf, dataOf}
-use Rattle.frame.specs.Building.{octetsOf}
+use Rattle.frame.specs.Building.{frameOctets}
 use Rattle.receiver.specs.Receiving.{Complete, onOctet}
 use Rattle.receiver.specs.Receiver.{receptionOf}
 use Rattle.tool.specs.declared.Tool.{Tool}
@@ -25,7 +25,7 @@ pub record Authenticates (t : Tool) (o : ℕ) (r : Response) : Type 0 where
   pub complete : onOctet o (receptionOf (t .receiver)) .outcome ≡ Complete command octets
   pub answered : expected t (fieldsOf command octets) ≡ true
   pub echo : Echo t command (fieldsOf command octets) (dataOf command octets)
-  pub sends : r .frame ≡ octetsOf Aut (authentication t (fieldsOf command octets .za2)) []
+  pub sends : r .frame ≡ frameOctets Aut (authentication t (fieldsOf command octets .za2)) []
 
 frame-of : {r s : Response} → r ≡ s → r .frame ≡ s .frame
 frame-of e = ap (λ (s : Response). s .frame) e

@@ -9,7 +9,7 @@ use borrow.Author.Tests.{eqb-true}
 use Rattle.octets.specs.Part.{same}
 use Rattle.octets.proofs.Same.{same-equal}
 use Rattle.des.specs.Des.{encipher}
-use Rattle.label.specs.declared.Octets.{Octets}
+use Rattle.numbers.specs.declared.Octets.{Octets}
 use Rattle.frame.specs.declared.codes.Command.{Command}
 use Rattle.frame.specs.declared.content.Fields.{Fields}
 use Rattle.tool.specs.declared.Phase.{Phase}

@@ -10,7 +10,7 @@ use Rattle.des.specs.Des.{encipher}
 use Rattle.frame.specs.declared.codes.Command.{Command}
 use Rattle.frame.specs.declared.codes.Command.the-variants as command
 use Rattle.frame.specs.declared.content.Fields.{Fields}
-use Rattle.frame.specs.Building.{octetsOf}
+use Rattle.frame.specs.Building.{frameOctets}
 use Rattle.wake.specs.declared.Wake.the-variants.{None}
 use Rattle.tool.specs.declared.Phase.{Phase}
 use Rattle.tool.specs.declared.Phase.the-variants.{Idle, Reading, Transferring, Programming, Authenticating}
@@ -73,7 +73,7 @@ authenticating na2 t =
       tool = inPhase Authenticating t;
       answer = Sent;
       wake = None;
-      frame = octetsOf command.Aut (authentication t na2) [];
+      frame = frameOctets command.Aut (authentication t na2) [];
       contents = [];
     }
 

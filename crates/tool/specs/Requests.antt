@@ -10,7 +10,7 @@ use Rattle.frame.specs.Addresses.{broadcast}
 use Rattle.frame.specs.declared.codes.Command.{Command}
 use Rattle.frame.specs.declared.codes.Command.the-variants as command
 use Rattle.frame.specs.declared.content.Fields.{Fields}
-use Rattle.frame.specs.Building.{octetsOf}
+use Rattle.frame.specs.Building.{frameOctets}
 use Rattle.wake.specs.declared.Request.{Request}
 use Rattle.wake.specs.declared.Request.the-variants.{Enq, Trf, Rec, Trb, Ib}
 use Rattle.wake.specs.Rule.{wakeBefore, asked}
@@ -86,7 +86,7 @@ admitted Admitted t r = r
 admitted (Refused x) t r = responding t (answer.Refused x)
 
 abbrev pub fieldsTo : List ℕ → ℕ → ℕ → List ℕ → List ℕ → Fields
-fieldsTo ads adp tab za1 za2 = record { ads = ads; adp = adp; za1 = za1; za2 = za2; tab = tab; station = replicate 6 0 }
+fieldsTo ads adp tab za1 za2 = record { ads = ads; adp = adp; za1 = za1; za2 = za2; tab = tab; announced = replicate 6 0 }
 
 abbrev pub zero8 : List ℕ
 zero8 = replicate 8 0
@@ -108,7 +108,7 @@ sending r a f d t =
       tool = withWaking (asked (t .waking) r (f .ads)) t;
       answer = a;
       wake = wakeBefore (t .waking) r (f .ads);
-      frame = octetsOf (commandOf r) f d;
+      frame = frameOctets (commandOf r) f d;
       contents = [];
     }
 

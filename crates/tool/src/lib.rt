@@ -12,7 +12,7 @@ mod soundness;
 
 use frame::Fault;
 use frame::checks::fault_number;
-use label::Octets;
+use numbers::Octets;
 use receiver::Receiver;
 use wake::Wake;
 use wake::WakeUps;

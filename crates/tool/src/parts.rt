@@ -11,7 +11,7 @@ use crate::Phase;
 use crate::Refusal;
 use crate::Requested;
 use crate::Tool;
-use label::Octets;
+use numbers::Octets;
 use receiver::Receiver;
 use wake::Wake;
 use wake::WakeUps;

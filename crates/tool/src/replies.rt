@@ -15,7 +15,7 @@ use crate::frames::fields_to;
 use crate::frames::send;
 use frame::Command;
 use frame::Fields;
-use label::Octets;
+use numbers::Octets;
 
 // A good frame, as the requests tell replies apart.
 pub(crate) enum Reply {

@@ -15,7 +15,7 @@ use crate::frames::fields_to;
 use crate::frames::send;
 use frame::Command;
 use frame::Fields;
-use label::Octets;
+use numbers::Octets;
 use wake::Request;
 
 // Whether a request is admitted.

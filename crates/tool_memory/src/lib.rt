@@ -9,7 +9,7 @@ mod waking;
 use fields::eight_at;
 use fields::hundred_at;
 use fields::six_at;
-use label::Octets;
+use numbers::Octets;
 use phases::head_of;
 use phases::phase_of;
 use tool::Phase;

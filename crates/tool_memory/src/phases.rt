@@ -1,7 +1,7 @@
 // The request that runs, as a mark with its TAB and its length.
 ghost use mathlib.Core.Path.{_≡_};
 ghost use Rattle.tool_memory.specs.Phases.{phaseOf, headOf};
-use label::Octets;
+use numbers::Octets;
 use receiver_memory::narrowed;
 use tool::Phase;
 

@@ -10,7 +10,9 @@ use borrow.Author.Tests.{ltb-true, ltb-false}
 use lib.ListN.{length, drop}
 use Rattle.label.specs.Utf8.{wellFormedOctets}
 use Rattle.label.specs.Character.{characters}
-use Rattle.label.specs.Fitting.{given, countsOf, keep, keptCharacters, fitOf, inOctets, inCharacters}
+use Rattle.numbers.specs.Counts.{inOctets, inCharacters}
+use Rattle.numbers.specs.Answer.{given}
+use Rattle.label.specs.Fitting.{countsOf, keep, keptCharacters, fitOf}
 use Rattle.label.proofs.Run.{octets-none, octets-well-formed, octets-ill-formed}
 use Rattle.label.proofs.Turn.{turn-fits, turn-octets, turns-ended, left, left-first, left-last, turn-kept-octets, turn-kept-count, turn-left}
 use Rattle.label.proofs.Answers.{judged-well-formed, judged-ill-formed}

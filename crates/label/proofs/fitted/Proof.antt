@@ -41,14 +41,14 @@ use denote.Triple.Walked.{says, Stays, stay-dropped, walkOf, goes-dropped, Walks
 use denote.Exit.{yes}
 use denote.Triple.Clauses.{ensured, lasts}
 use Rattle.label.specs.Fitting.{answerOfFitting, fitOf, frontOf}
-use Rattle.label.specs.declared.Octets.{Octets}
-use Rattle.label.specs.declared.Characters.{Characters}
+use Rattle.numbers.specs.declared.Octets.{Octets}
+use Rattle.numbers.specs.declared.Characters.{Characters}
 use Rattle.label.specs.declared.Fitting.{Fitting}
 use Rattle.label.proofs.Laws.{front-kept}
-use Rattle.label.proofs.Octets as O
-use Rattle.label.proofs.Octets.Laws as O′
-use Rattle.label.proofs.Characters as N
-use Rattle.label.proofs.Characters.Laws as N′
+use Rattle.numbers.proofs.Octets as O
+use Rattle.numbers.proofs.Octets.Laws as O′
+use Rattle.numbers.proofs.Characters as N
+use Rattle.numbers.proofs.Characters.Laws as N′
 use Rattle.label.proofs.Fitting as F
 use Rattle.label.proofs.Fitting.Laws as F′
 use Rattle.label.proofs.FittedLabel as T

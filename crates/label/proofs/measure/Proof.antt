@@ -8,7 +8,8 @@ use borrow.Author.Needs.{needs}
 use lib.ListN.{length, drop}
 use Rattle.label.specs.Utf8.{sequenceLength, wellFormedOctets}
 use Rattle.label.specs.Character.{characters}
-use Rattle.label.specs.Fitting.{measured, inCharacters}
+use Rattle.numbers.specs.Counts.{inCharacters}
+use Rattle.label.specs.Fitting.{measured}
 use Rattle.label.proofs.Run.{octets-none, octets-well-formed, octets-ill-formed}
 use Rattle.label.proofs.Whole.{characters-none}
 use Rattle.label.proofs.Turn.{turn-fits, turn-octets, turn-count, turns-ended}

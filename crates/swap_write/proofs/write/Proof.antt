@@ -3,9 +3,10 @@ use Prim.Native.Nat.{_≤_}
 use mathlib.Core.Path.{_≡_, sym, ap, _∙_}
 use lib.ListN.{length}
 use denote.Ref.{now}
-use Rattle.label.specs.declared.Octets.{Octets}
-use Rattle.label.specs.Fitting.{given, inOctets}
-use Rattle.number.specs.Answers.{swapFault}
+use Rattle.numbers.specs.declared.Octets.{Octets}
+use Rattle.numbers.specs.Counts.{inOctets}
+use Rattle.numbers.specs.Answer.{given}
+use Rattle.numbers.specs.Table.{faultyFile}
 use Rattle.swap.specs.Record.{fileLimit}
 use Rattle.swap.specs.Reading.{answerOfVerdict}
 use Rattle.swap.proofs.Verdicts.{verdict-long}
@@ -33,7 +34,7 @@ returns : tie.Need-returns
 returns c =
     let a = c .before .before .before .before .before .before .args in
     let F = fileOf (now (a .heads)) (now (a .contents)) in
-    let e = writing-refused (now (a .heads)) (now (a .contents)) (now (a .buffer)) swapFault (inOctets fileLimit) (verdict-long F (size-long F (sym (c .before .before .file-size .ensures) ∙ c .enum-told .given .1))) in
+    let e = writing-refused (now (a .heads)) (now (a .contents)) (now (a .buffer)) faultyFile (inOctets fileLimit) (verdict-long F (size-long F (sym (c .before .before .file-size .ensures) ∙ c .enum-told .given .1))) in
     (ap (λ (o : Outcome). o .answer) e, ap (λ (o : Outcome). o .buffer) e)
 
 judge-requires : tie.Need-judge-requires
@@ -66,7 +67,7 @@ returns-3 : tie.Need-returns-3
 returns-3 c =
     let j = c .before .before .before in
     let a = j .before .before .before .before .before .before .before .before .args in
-    let e = writing-refused (now (a .heads)) (now (a .contents)) (now (a .buffer)) swapFault _ (sym (ap answerOfVerdict (c .before .verdict .given .1)) ∙ j .judge .ensures) in
+    let e = writing-refused (now (a .heads)) (now (a .contents)) (now (a .buffer)) faultyFile _ (sym (ap answerOfVerdict (c .before .verdict .given .1)) ∙ j .judge .ensures) in
     (ap (λ (o : Outcome). o .answer) e, ap (λ (o : Outcome). o .buffer) e)
 
 same-length : tie.Need-same-length

@@ -77,7 +77,7 @@ returns c =
     let most1 = on-wire-most (l .za1) (f .za1) 8 (long .za1-long) in
     let most2 = on-wire-most (l .za2) (f .za2) 8 (long .za2-long) in
     let most3 = on-wire-most (l .tab) (f .tab ∷ []) 1 refl in
-    let most4 = on-wire-most (l .station) (f .station) 6 (long .station-long) in
+    let most4 = on-wire-most (l .announced) (f .announced) 6 (long .station-long) in
     rw (
       four .ensures .1,
       three .ensures .1,
@@ -87,7 +87,7 @@ returns c =
       two .ensures .0,
       one .ensures .0,
     )
-    (fields-made (now (s .args .buffer)) 9 (onWire (l .za1) (f .za1)) (onWire (l .za2) (f .za2)) (onWire (l .tab) (f .tab ∷ [])) (onWire (l .station) (f .station)) (omega (arith, s .pre)))
+    (fields-made (now (s .args .buffer)) 9 (onWire (l .za1) (f .za1)) (onWire (l .za2) (f .za2)) (onWire (l .tab) (f .tab ∷ [])) (onWire (l .announced) (f .announced)) (omega (arith, s .pre)))
 
 pub put-fixed-spec : {M : Type 1} → statement M
 put-fixed-spec =
