@@ -4,8 +4,8 @@ mod gather;
 mod hours;
 mod line;
 mod listing;
-mod numbers;
 mod primary;
+mod refusals;
 mod stations;
 mod wire;
 

@@ -1,6 +1,6 @@
 // The tool at its end of the wire: what it asks, and what it hears.
 use crate::line::print;
-use crate::numbers::print_tool;
+use crate::refusals::print_tool;
 use crate::wire::Sent;
 use crate::wire::TOOL;
 use crate::wire::silence;

@@ -4,7 +4,7 @@ use crate::line::print;
 use crate::line::print_frame;
 use crate::line::print_number;
 use crate::line::print_octets;
-use crate::numbers::print_card;
+use crate::refusals::print_card;
 use card::Answer;
 use card::Card;
 

@@ -6,7 +6,7 @@ use lib.Dec.{leb, ltb}
 use lib.ListN.{length}
 use Rattle.numbers.specs.declared.Octets.{Octets}
 use Rattle.numbers.specs.Counts.{inOctets}
-use Rattle.numbers.specs.Answer.{Answer, given, refusedAt}
+use Rattle.numbers.specs.Answer.{Answer, given, refused, refusedAt}
 use Rattle.octets.specs.Splice.{fronted}
 use Rattle.numbers.specs.Table.{faultyFile, wrongLength}
 use Rattle.swap.specs.declared.file.Records.{Records}
@@ -45,6 +45,7 @@ laid file buffer =
 -- 01, Swap file: 18 and the reader's offset, "then a buffer too short for the file with 17; both leave the buffer"
 unfoldable pub judgedWriting : Answer Records → List ℕ → List ℕ → Outcome
 judgedWriting (given count) file buffer = laid file buffer
+judgedWriting (refused n) file buffer = record { answer = short n; buffer = buffer }
 judgedWriting (refusedAt n offset) file buffer = record { answer = faulty n offset; buffer = buffer }
 
 unfoldable pub writing : List ℕ → List ℕ → List ℕ → Outcome

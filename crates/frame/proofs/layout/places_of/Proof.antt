@@ -23,8 +23,8 @@ add-tab-at c =
 width-of-requires-3 : tie.Need-width-of-requires-3
 width-of-requires-3 c κs = search needs
 
-add-station-at : tie.Need-add-station-at
-add-station-at c =
+add-announced-at : tie.Need-add-announced-at
+add-announced-at c =
     let l = c .before .before .before .args .layout in
     rw (c .width-of3 .ensures, c .before .width-of2 .ensures, c .before .before .width-of .ensures)
     (omega (arith, width-most (l .za1) 8, width-most (l .za2) 8, width-most (l .tab) 1))
@@ -60,7 +60,7 @@ places-of-spec =
     width-of-requires-2
     add-tab-at
     width-of-requires-3
-    add-station-at
+    add-announced-at
     width-of-requires-4
     add-content-at
     returns)
