@@ -1,7 +1,7 @@
 //! The independent program: the papers' rules written a second time, bit by bit, from the papers alone,
 //! and compared with our libraries.
 //!
-//! `compare PART.. [--cases N] [--seed S]`; the parts are `vectors` (the program against published data
+//! `compare PART.. [--cases N] [--seed S]`, with N at least 1; the parts are `vectors` (the program against published data
 //! and itself), our programs by their names and, where compiled in, `leaves`, `frames`, `card`, `swap` and `tool`. `compare print
 //! PROGRAM` prints what a program should print for standard input, and `compare write PROGRAM` its stored
 //! input, or what a C example should print, where that is made here.
@@ -72,6 +72,7 @@ mod tool_calls;
 use report::{tell, Disagreement};
 use rng::Rng;
 use std::io::{Read, Write};
+use std::num::NonZeroUsize;
 use std::process::ExitCode;
 
 struct Options {
@@ -86,7 +87,7 @@ fn options() -> Option<Options> {
     let mut words = std::env::args().skip(1);
     while let Some(word) = words.next() {
         match &word[..] {
-            "--cases" => options.cases = Some(words.next()?.parse().ok()?),
+            "--cases" => options.cases = Some(words.next()?.parse::<NonZeroUsize>().ok()?.get()),
             "--seed" => options.seed = words.next()?.parse().ok()?,
             _ => options.parts.push(word),
         }
@@ -124,7 +125,7 @@ fn main() -> ExitCode {
         }
     }
     let Some(options) = options() else {
-        eprintln!("usage: compare PART.. [--cases N] [--seed S], with PART one of vectors, leaves, frames, card, swap, tool, des_vectors, framelist, cardlog, swaplist, day");
+        eprintln!("usage: compare PART.. [--cases N] [--seed S], with N at least 1 and PART one of vectors, leaves, frames, card, swap, tool, des_vectors, framelist, cardlog, swaplist; or compare print PROGRAM, compare write PROGRAM");
         return ExitCode::from(2);
     };
     println!("seed {}", options.seed);
@@ -199,7 +200,7 @@ fn self_tests(rng: &mut Rng, cases: usize) -> bool {
         && tell("tool soundness rows", bench_tool::soundness())
         && tell("tool replies", bench_tool::replies(rng))
         && tell_with("card and book, events", "writes granted", histories::card_and_book(rng, cases))
-        && tell("taking out, frames", histories::taking_out(rng, cases / 4))
+        && tell("taking out, frames", histories::taking_out(rng, cases.div_ceil(4)))
         && tell_with("perfect wire, requests", "ended well", wire::tool_and_card(rng, cases, None))
         && tell_with("lossy wire, requests", "ended well", wire::tool_and_card(rng, cases, Some(150)))
 }
@@ -220,18 +221,18 @@ fn compare_frames(rng: &mut Rng, cases: usize) -> bool {
 fn compare_tool(rng: &mut Rng, cases: usize) -> bool {
     tell("tool, five reads and a sixth", tool_calls::five_reads())
         && tell_with("tool, calls", "ended a request well", tool_calls::calls(rng, cases))
-        && tell_with("tool, perfect wire", "ended well", tool_calls::on_the_wire(rng, cases / 50, None))
-        && tell_with("tool, lossy wire", "ended well", tool_calls::on_the_wire(rng, cases / 50, Some(150)))
+        && tell_with("tool, perfect wire", "ended well", tool_calls::on_the_wire(rng, cases.div_ceil(50), None))
+        && tell_with("tool, lossy wire", "ended well", tool_calls::on_the_wire(rng, cases.div_ceil(50), Some(150)))
 }
 
 #[cfg(part_swap)]
 fn compare_swap(rng: &mut Rng, cases: usize) -> bool {
     tell("swap files read, calls", swap_calls::reading(rng, cases))
-        && tell("swap files written", swap_calls::writing(rng, cases / 2))
-        && tell("swap lists, records", swap_calls::listing(rng, cases / 2))
+        && tell("swap files written", swap_calls::writing(rng, cases.div_ceil(2)))
+        && tell("swap lists, records", swap_calls::listing(rng, cases.div_ceil(2)))
 }
 
 fn compare_cardlog(rng: &mut Rng, cases: usize) -> bool {
-    tell_with("cardlog, setups", "accepted", replays::setups(rng, cases / 100))
+    tell_with("cardlog, setups", "accepted", replays::setups(rng, cases.div_ceil(100)))
         && tell_with("cardlog, calls", "writes granted", replays::calls(rng, cases))
 }

@@ -158,7 +158,7 @@ fn random_file(rng: &mut Rng) -> Vec<u8> {
     let mut file = swap::encode(&records);
     let place = rng.below(file.len());
     match rng.below(6) {
-        0 => file[place] ^= 1 << rng.below(8),
+        0 => rng.turn_bit(&mut file),
         1 => file[place] = rng.octet(),
         2 => file.truncate(place),
         3 => file.insert(place, rng.octet()),

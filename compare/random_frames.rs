@@ -41,14 +41,13 @@ pub fn frame(rng: &mut Rng, ads: Address) -> Frame {
     Frame { ads, adp: rng.octet(), body: body(rng, command) }
 }
 
-/// A frame that one of the checks refuses: a bit turned (2), a code not in use (4), a
-/// length its command can't have (5). By chance it may be a good one.
+/// A frame that one of the checks refuses: a bit turned (2, or 1 or 3 where it is a bit of N), a code not
+/// in use (4), a length its command can't have (5). By chance it may be a good one.
 pub fn damaged(rng: &mut Rng, ads: Address) -> Vec<u8> {
     match rng.below(3) {
         0 => {
             let mut octets = frame(rng, ads).octets().expect("DATA within its limit");
-            let place = 1 + rng.below(octets.len() - 1);
-            octets[place] ^= 1 << rng.below(8);
+            rng.turn_bit(&mut octets);
             octets
         }
         1 => {

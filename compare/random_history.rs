@@ -147,7 +147,9 @@ impl Maker<'_> {
     /// Mostly the address that the frame is meant for.
     fn mostly(&mut self, ads: Address) -> Address {
         if self.rng.once_in(12) {
-            self.rng.pick(&[BROADCAST, self.setup.address, [1; 6]])
+            let mut near = ads;
+            self.rng.turn_bit(&mut near);
+            self.rng.pick(&[BROADCAST, self.setup.address, near])
         } else {
             ads
         }
@@ -213,11 +215,15 @@ impl Maker<'_> {
     }
 
     fn aut(&mut self, adp: u8, na2: Block) {
-        let (ads, adp) =
-            (self.mostly(self.setup.address), if self.rng.once_in(8) { self.adp() } else { adp });
+        let ads = self.mostly(self.setup.address);
+        let adp = match self.rng.below(16) {
+            0 => self.adp(),
+            1 => adp ^ (1 << self.rng.below(8)),
+            _ => adp,
+        };
         let mut na2k = des::encipher(self.setup.key, na2);
         if self.rng.once_in(8) {
-            na2k[self.rng.below(8)] ^= 1 << self.rng.below(8);
+            self.rng.turn_bit(&mut na2k);
         }
         self.send(ads, adp, Body::Aut { na2k });
     }

@@ -37,6 +37,13 @@ impl Rng {
         std::array::from_fn(|_| self.octet())
     }
 
+    /// Turns one bit of one octet, where there is an octet.
+    pub fn turn_bit(&mut self, octets: &mut [u8]) {
+        if !octets.is_empty() {
+            octets[self.below(octets.len())] ^= 1 << self.below(8);
+        }
+    }
+
     pub fn pick<T: Clone>(&mut self, choices: &[T]) -> T {
         choices[self.below(choices.len())].clone()
     }

@@ -234,7 +234,7 @@ fn reply(rng: &mut Rng, tool: &Tool) -> Vec<u8> {
         let adp = rng.octet();
         return Frame { adp, ..random_frames::frame(rng, ADDRESS) }.octets().expect("DATA within its limit");
     };
-    let near = |rng: &mut Rng, octet: u8| if rng.once_in(8) { octet ^ 1 } else { octet };
+    let near = |rng: &mut Rng, octet: u8| if rng.once_in(8) { octet ^ (1 << rng.below(8)) } else { octet };
     let rejected = rng.once_in(8);
     let body = match after {
         _ if rng.once_in(10) => {
@@ -251,10 +251,12 @@ fn reply(rng: &mut Rng, tool: &Tool) -> Vec<u8> {
         After::Aut => Body::Eos,
         After::Rec { tab, data, key, na1 } => {
             let mut na1k = des::encipher(*key, *na1);
-            na1k[7] = near(rng, na1k[7]);
+            if rng.once_in(8) {
+                rng.turn_bit(&mut na1k);
+            }
             let mut data = data.clone();
             match rng.below(12) {
-                0 => data.iter_mut().last().into_iter().for_each(|last| *last ^= 1),
+                0 => rng.turn_bit(&mut data),
                 1 => drop(data.pop()),
                 2 if data.len() < 100 => data.push(0),
                 _ => {}
@@ -262,9 +264,11 @@ fn reply(rng: &mut Rng, tool: &Tool) -> Vec<u8> {
             Body::Ech { na1k, na2: rng.field(), tab: near(rng, *tab), data }
         }
     };
+    let mut near_ads = *ads;
+    rng.turn_bit(&mut near_ads);
     let (ads, adp): (Address, u8) = match rng.below(12) {
-        0 => (FOREIGN, *adp),
-        1 => (*ads, adp.wrapping_add(1)),
+        0 => (near_ads, *adp),
+        1 => (*ads, adp ^ (1 << rng.below(8))),
         2 => (BROADCAST, *adp),
         _ => (*ads, *adp),
     };

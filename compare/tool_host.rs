@@ -3,6 +3,7 @@
 use crate::bench::{ADDRESS, KEY};
 use crate::card::Card;
 use crate::card_host::fresh_number;
+use crate::frame::Number;
 use crate::hex;
 use crate::record::{Record, LABEL, RAW};
 use crate::swap::{self, Fault, Written};
@@ -15,13 +16,24 @@ const UNKNOWN: u8 = 0x0C;
 const OLD_LIMITS: (Octets, Characters) = (Octets(40), Characters(40));
 const NEW_LIMITS: (Octets, Characters) = (Octets(14), Characters(20));
 
+/// A request that nobody answered is made again so often: 004, 5.2.4.
+const MAX_RETRY: usize = 2;
+/// Which replies the wire spoils, counted from 1: a bit of one is bent, and all of the other is lost.
+const BENT_REPLY: usize = 1;
+const LOST_REPLY: usize = 6;
+
 struct Host {
     tool: Tool,
     card: Card,
     /// How many random numbers were drawn.
     drawn: u64,
+    /// How many replies the wire has carried or lost.
+    replies: usize,
     text: String,
 }
+
+/// How a request ended: with the DATA of a reading, which is empty for others, or with a number.
+type Ending = Result<Vec<u8>, Number>;
 
 fn card(limits: (Octets, Characters), holder: &str, index: &str) -> Card {
     let holder = Record {
@@ -61,51 +73,104 @@ impl Host {
         buffer[..length].to_vec()
     }
 
-    /// What the last octet of a frame brings, and the frame that the tool then has to send.
-    fn tool_hears(&mut self, reply: &[u8]) -> (Outcome, Vec<u8>) {
-        let (mut buffer, mut last) = ([0; 128], Outcome::Nothing);
-        for octet in reply {
-            last = self.tool.octet(*octet, &mut buffer);
+    /// What arrives of a reply.
+    fn carried(&mut self, mut reply: Vec<u8>) -> Vec<u8> {
+        self.replies += 1;
+        if self.replies == LOST_REPLY {
+            self.say("  gets  nothing");
+            return vec![];
         }
-        self.tool.gap();
-        let length = if let Outcome::Authenticate(length) = last { length } else { 0 };
-        (last, buffer[..length].to_vec())
+        if self.replies == BENT_REPLY {
+            let middle = reply.len() / 2;
+            reply[middle] ^= 4;
+        }
+        self.say(&format!("  gets  {}", hex::text(&reply)));
+        reply
     }
 
-    /// The DATA that a request ends with, none where it ends with a number.
-    fn play(&mut self, request: Request) -> Option<Vec<u8>> {
+    /// The frame that the tool then has to send, none where there is none, and how the request ended, if it has.
+    fn tool_hears(&mut self, reply: &[u8]) -> (Vec<u8>, Option<Ending>) {
+        let (mut buffer, mut frame, mut ending) = ([0; 128], vec![], None);
+        for octet in reply {
+            match self.tool.octet(*octet, &mut buffer) {
+                Outcome::Nothing => {}
+                Outcome::Dropped(number) => self.dropped(number),
+                Outcome::Authenticate(length) => frame = buffer[..length].to_vec(),
+                Outcome::Done(data) => ending = Some(Ok(data.unwrap_or_default())),
+                Outcome::Failed(number) => ending = Some(Err(number)),
+                Outcome::Refused(number) => {
+                    unreachable!("a sound tool and a long buffer are not refused {number}")
+                }
+            }
+        }
+        if let Outcome::Dropped(number) = self.tool.gap() {
+            self.dropped(number);
+        }
+        (frame, ending)
+    }
+
+    fn dropped(&mut self, number: Number) {
+        self.say(&format!("  drops a bad frame: {number}"));
+    }
+
+    /// Nothing more comes: both hosts report a session end.
+    fn end_session(&mut self) -> Ending {
+        self.say("  session end");
+        self.card.session_end();
+        match self.tool.session_end() {
+            Outcome::Failed(number) => Err(number),
+            other => unreachable!("a running request fails, and not with {other:?}"),
+        }
+    }
+
+    fn play(&mut self, request: &Request) -> Ending {
         let mut buffer = [0; 128];
-        let begun = self.tool.request(&ADDRESS, 1, &request, &mut buffer).expect("an acceptable request");
+        let begun = self.tool.request(&ADDRESS, 1, request, &mut buffer).expect("an acceptable request");
         if begun.wake_up {
             self.say("  wake-up call");
         }
-        let (mut frame, mut outcome) = (buffer[..begun.length].to_vec(), Outcome::Nothing);
+        let (mut frame, mut ending) = (buffer[..begun.length].to_vec(), None);
         while !frame.is_empty() {
             self.say(&format!("  sends {}", hex::text(&frame)));
             let reply = self.card_hears(&frame);
-            self.say(&format!("  gets  {}", hex::text(&reply)));
-            (outcome, frame) = self.tool_hears(&reply);
+            let arrived = self.carried(reply);
+            (frame, ending) = self.tool_hears(&arrived);
         }
-        if outcome == Outcome::Nothing {
-            outcome = self.tool.session_end();
+        let ending = ending.unwrap_or_else(|| self.end_session());
+        self.say(&format!("  ends with {}", ending.as_ref().err().unwrap_or(&0)));
+        ending
+    }
+
+    /// Makes a request, and again where it ended with 15.
+    fn ask(&mut self, once: impl Fn(&mut Host) -> Ending) -> Ending {
+        let mut ending = once(self);
+        for _ in 0..MAX_RETRY {
+            if ending == Err(15) {
+                ending = once(self);
+            }
         }
-        let (number, data) = match outcome {
-            Outcome::Done(data) => (0, Some(data.unwrap_or_default())),
-            Outcome::Failed(number) => (number, None),
-            other => unreachable!("a request ends, and not with {other:?}"),
-        };
-        self.say(&format!("  ends with {number}"));
-        data
+        ending
+    }
+
+    fn read_once(&mut self, tab: u8) -> Ending {
+        self.say(&format!("reading TAB {tab:02X}"));
+        self.play(&Request::Read { tab })
+    }
+
+    fn program_once(&mut self, tab: u8, data: &[u8]) -> Ending {
+        self.say(&format!("programming TAB {tab:02X} with {} octets", data.len()));
+        let na1 = fresh_number(&mut self.drawn).to_vec();
+        self.play(&Request::Program { tab, data: data.to_vec(), key: KEY.to_vec(), na1 })
     }
 
     fn collect(&mut self, list: &mut Vec<swap::Record>, tab: u8, kind: u8) {
-        self.say(&format!("reading TAB {tab:02X}"));
-        if let Some(data) = self.play(Request::Read { tab }) {
+        let read = self.ask(|host| host.read_once(tab));
+        let word = if read.is_ok() { "in" } else { "NOT in" };
+        if let Ok(data) = read {
             list.push(swap::Record { ads: ADDRESS, tab, kind, data });
             list.sort_by_key(|record| (record.ads, record.tab));
-            let number = if swap::read(&swap::encode(list)).is_ok() { 0 } else { 18 };
-            self.say(&format!("  added: {number}"));
         }
+        self.say(&format!("  TAB {tab:02X} is {word} the list"));
     }
 
     fn verdict(&mut self, file: &[u8]) {
@@ -124,9 +189,9 @@ impl Host {
             };
             data.truncate(kept);
         }
-        self.say(&format!("programming TAB {:02X} with {} octets", record.tab, data.len()));
-        let na1 = fresh_number(&mut self.drawn).to_vec();
-        self.play(Request::Program { tab: record.tab, data, key: KEY.to_vec(), na1 });
+        let programmed = self.ask(|host| host.program_once(record.tab, &data));
+        let word = if programmed.is_ok() { "on" } else { "NOT on" };
+        self.say(&format!("  TAB {:02X} is {word} the new card", record.tab));
     }
 
     fn display(&mut self, tab: u8) {
@@ -139,7 +204,8 @@ impl Host {
 
 pub fn printed() -> String {
     let card_at_first = card(OLD_LIMITS, "Résidence Pré Fleuri", "000000042");
-    let mut host = Host { tool: Tool::fresh(), card: card_at_first, drawn: 0, text: String::new() };
+    let mut host =
+        Host { tool: Tool::fresh(), card: card_at_first, drawn: 0, replies: 0, text: String::new() };
     let mut list = vec![];
     host.say("the old card: setup 0");
     host.collect(&mut list, INDEX, RAW);

@@ -1,5 +1,6 @@
 /* A fitter's program: the hand tool reads the records of an old card, keeps them in a swap file, and programs a new card from the file. The two
- * cards stand at the other end of the wire, in the same program. It prints each frame, and the number that each call of the tool ends with.
+ * cards stand at the other end of the wire, in the same program. The wire bends a bit of one reply and loses another; a request that nobody
+ * answered is made again, and every record arrives. It prints each frame, and the number that each request ends with.
  *
  *   for archive in tool_exports swap_exports card_exports leaf_exports; do rt staticlib $archive; done
  *   cc -Iinclude examples/tool_host.c -Ltarget/staticlib -ltool_exports -lswap_exports -lcard_exports -lleaf_exports -o target/tool_host
@@ -20,6 +21,12 @@ enum { HOLDER = 0x0A, INDEX = 0x0B, UNKNOWN = 0x0C };
 enum { RAW = PROPOLISK_CARD_RAW, LABEL = PROPOLISK_CARD_LABEL };
 /* The tool's own address, and the most octets and characters of a holder on the new card. */
 enum { ADP = 1, HOLDER_OCTETS = 14, HOLDER_CHARACTERS = 20 };
+/* Numbers of the tool. 1 to LAST_BAD_FRAME: a bad frame was dropped, and the request goes on. SESSION_ENDED: nobody answered it. */
+enum { LAST_BAD_FRAME = 5, SESSION_ENDED = 15 };
+/* How often a request that nobody answered is made again (IEC 62056-3-1, 5.2.4). */
+enum { MAX_RETRY = 2 };
+/* Which replies the wire spoils, counted from 1: a bit of one is bent, and all of the other is lost. */
+enum { BENT_REPLY = 1, LOST_REPLY = 6 };
 
 static const uint8_t address[6] = {0x11, 0x22, 0x33, 0x44, 0x55, 0x66};
 static const uint8_t key[8] = {0x13, 0x34, 0x57, 0x79, 0x9B, 0xBC, 0xDF, 0xF1};
@@ -27,6 +34,13 @@ static const uint8_t key[8] = {0x13, 0x34, 0x57, 0x79, 0x9B, 0xBC, 0xDF, 0xF1};
 /* What is lent to the calls, from the heap, so that a memory checker sees an access beside it. */
 static uint8_t *tool, *card, *frame, *reply, *data, *heads, *contents, *file;
 static size_t data_count, records, contents_count, file_length;
+
+/* How a request stands: how many octets of the frame buffer are to be sent, whether it is over, and the number that it ended with. */
+struct request {
+    size_t to_send;
+    bool over;
+    uint8_t number;
+};
 
 static uint8_t *lent(size_t count)
 {
@@ -57,23 +71,71 @@ static size_t card_hears(size_t count)
     return length;
 }
 
+/* The wire carries a reply; gives how many octets of it arrive. */
+static size_t carried(size_t length)
+{
+    static int replies;
+    replies++;
+    if (replies == LOST_REPLY) {
+        printf("  gets  nothing\n");
+        return 0;
+    }
+    if (replies == BENT_REPLY)
+        reply[length / 2] ^= 0x04;
+    print_octets("  gets  ", reply, length);
+    return length;
+}
+
+/* Notes what the tool answered to an event. A bad frame is no end: the right reply may still come. */
+static void note(struct request *request, uint8_t number, bool ended)
+{
+    bool bad_frame = 1 <= number && number <= LAST_BAD_FRAME;
+    if (bad_frame)
+        printf("  drops a bad frame: %u\n", number);
+    if (ended || (number != 0 && !bad_frame)) {
+        request->over = true;
+        request->number = number;
+    }
+}
+
+/* The tool hears the octets that arrived, and the gap after them. */
+static void tool_hears(struct request *request, size_t arrived)
+{
+    for (size_t i = 0; i < arrived; i++) {
+        size_t to_send = 0, count = 0;
+        uint8_t ended = 0;
+        uint8_t number = propolisk_tool_octet(tool, reply[i], frame, 128, &to_send, &ended, data, &count);
+        if (to_send > 0)
+            request->to_send = to_send;
+        if (ended)
+            data_count = count;
+        note(request, number, ended);
+    }
+    note(request, propolisk_tool_gap(tool), false);
+}
+
+/* Nothing more comes: the waiting time ends at both ends of the wire, and each host reports a session end. */
+static void end_session(struct request *request)
+{
+    printf("  session end\n");
+    propolisk_card_step_session_end(card, PROPOLISK_CARD_MEMORY);
+    note(request, propolisk_tool_session_end(tool), false);
+}
+
 /* Plays a request to its end, from the frame that its call gave: the tool hears the card's reply, and may then have an AUT to send. */
 static uint8_t play(size_t count)
 {
-    uint8_t number = 0, ended = 0;
-    while (count > 0) {
-        print_octets("  sends ", frame, count);
-        size_t length = card_hears(count);
-        print_octets("  gets  ", reply, length);
-        count = 0;
-        for (size_t i = 0; i < length; i++)
-            number = propolisk_tool_octet(tool, reply[i], frame, 128, &count, &ended, data, &data_count);
-        propolisk_tool_gap(tool);
+    struct request request = {.to_send = count};
+    while (request.to_send > 0) {
+        print_octets("  sends ", frame, request.to_send);
+        size_t arrived = carried(card_hears(request.to_send));
+        request.to_send = 0;
+        tool_hears(&request, arrived);
     }
-    if (number == 0 && !ended)
-        number = propolisk_tool_session_end(tool);
-    printf("  ends with %u\n", number);
-    return number;
+    if (!request.over)
+        end_session(&request);
+    printf("  ends with %u\n", request.number);
+    return request.number;
 }
 
 /* Begins a request that was called: its wake-up call, if any, goes before its frame. */
@@ -88,7 +150,7 @@ static uint8_t begin(uint8_t number, size_t count, uint8_t wake)
     return play(count);
 }
 
-static uint8_t read_record(uint8_t tab)
+static uint8_t read_once(uint8_t tab)
 {
     size_t count = 0;
     uint8_t wake = 0, ended = 0;
@@ -97,7 +159,7 @@ static uint8_t read_record(uint8_t tab)
     return begin(number, count, wake);
 }
 
-static uint8_t program(uint8_t tab, const uint8_t *octets, size_t octets_count)
+static uint8_t program_once(uint8_t tab, const uint8_t *octets, size_t octets_count)
 {
     uint8_t na1[8], wake = 0, ended = 0;
     size_t count = 0;
@@ -108,13 +170,32 @@ static uint8_t program(uint8_t tab, const uint8_t *octets, size_t octets_count)
     return begin(number, count, wake);
 }
 
+/* A reading changes nothing, so it may be asked for again. */
+static uint8_t read_record(uint8_t tab)
+{
+    uint8_t number = read_once(tab);
+    for (int retry = 0; retry < MAX_RETRY && number == SESSION_ENDED; retry++)
+        number = read_once(tab);
+    return number;
+}
+
+/* A lost reply does not say whether the card has written; to write the same octets again does no harm. */
+static uint8_t program_record(uint8_t tab, const uint8_t *octets, size_t count)
+{
+    uint8_t number = program_once(tab, octets, count);
+    for (int retry = 0; retry < MAX_RETRY && number == SESSION_ENDED; retry++)
+        number = program_once(tab, octets, count);
+    return number;
+}
+
 /* A record that was read goes into its place in the list, whatever the order of reading. */
 static void collect(uint8_t tab, uint8_t kind)
 {
     size_t offset = 0;
-    if (read_record(tab) == 0)
-        printf("  added: %u\n",
-               propolisk_swap_add(heads, contents, &records, &contents_count, address, tab, kind, data, data_count, &offset));
+    uint8_t number = read_record(tab);
+    if (number == 0)
+        number = propolisk_swap_add(heads, contents, &records, &contents_count, address, tab, kind, data, data_count, &offset);
+    printf("  TAB %02X is %s the list\n", tab, number == 0 ? "in" : "NOT in");
 }
 
 static void verdict(size_t length)
@@ -130,7 +211,11 @@ static void verdict(size_t length)
 static void write_file(void)
 {
     size_t offset = 0;
-    propolisk_swap_write(heads, 10 * records, contents, contents_count, file, 65536, &file_length, &offset);
+    uint8_t number = propolisk_swap_write(heads, 10 * records, contents, contents_count, file, 65536, &file_length, &offset);
+    if (number != 0) {
+        printf("the swap file is refused: %u at %zu\n", number, offset);
+        exit(1);
+    }
     print_octets("swap file ", file, file_length);
     verdict(file_length);
     verdict(file_length - 1);
@@ -140,19 +225,27 @@ static void write_file(void)
 static void program_fitted(uint8_t tab, uint8_t kind, const uint8_t *octets, size_t count)
 {
     size_t kept = count, characters = 0;
-    if (kind == LABEL && propolisk_label_fit(octets, count, HOLDER_OCTETS, HOLDER_CHARACTERS, &kept, &characters) != 0)
-        return;
-    program(tab, octets, kept);
+    uint8_t number = 0;
+    if (kind == LABEL)
+        number = propolisk_label_fit(octets, count, HOLDER_OCTETS, HOLDER_CHARACTERS, &kept, &characters);
+    if (number == 0)
+        number = program_record(tab, octets, kept);
+    printf("  TAB %02X is %s the new card\n", tab, number == 0 ? "on" : "NOT on");
 }
 
 static void program_from_file(void)
 {
     size_t at, left, from, length;
-    bool found = false;
-    uint8_t ads[6], tab, kind;
+    bool found = true;
+    uint8_t ads[6], tab, kind, number = 0;
     propolisk_swap_start(file, file_length, &at, &left);
-    while (propolisk_swap_next_for(file, file_length, address, &at, &left, &found, ads, &tab, &kind, &from, &length) == 0 && found)
-        program_fitted(tab, kind, file + from, length);
+    while (number == 0 && found) {
+        number = propolisk_swap_next_for(file, file_length, address, &at, &left, &found, ads, &tab, &kind, &from, &length);
+        if (number == 0 && found)
+            program_fitted(tab, kind, file + from, length);
+    }
+    if (number != 0)
+        printf("the swap file is refused: %u\n", number);
 }
 
 static void put_entry(uint8_t *entry, uint8_t tab, uint8_t kind, uint8_t octets, uint8_t characters, const char *held)
@@ -173,7 +266,7 @@ static void set_up(const char *what, uint8_t octets, uint8_t characters, const c
 
 static void display(uint8_t tab)
 {
-    size_t length;
+    size_t length = 0;
     uint8_t number = propolisk_card_read(card, PROPOLISK_CARD_MEMORY, tab, data, &length);
     printf("the new meter's display, TAB %02X: %u \"%.*s\"\n", tab, number, (int)length, (const char *)data);
 }
