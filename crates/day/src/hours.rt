@@ -43,9 +43,7 @@ pub(crate) fn read_all(readings: Readings, polls: &[u8], damaged: usize) -> Read
         let tab = polls[2 * i + 1];
         let damage = damage_at(i, damaged);
         i += 1;
-        let cards = bus.cards;
-        let primary = bus.primary;
-        bus = exchange(cards, primary.read(ads, tab), damage);
+        bus = exchange(bus.reading(ads, tab), damage);
         let heard = bus.primary;
         gathered = taken(gathered, ads, tab, heard);
     }
@@ -116,9 +114,7 @@ fn program_entry(bus: Bus, tab: u8, data: &[u8]) -> Bus {
 }
 
 fn program(bus: Bus, tab: u8, data: &[u8], key: [u8; 8]) -> Bus {
-    let cards = bus.cards;
-    let primary = bus.primary;
-    let next = exchange(cards, primary.program(FLAT, tab, data, key), Damage::None);
+    let next = exchange(bus.programming(FLAT, tab, data, key), Damage::None);
     let heard = next.primary;
     let stage = heard.stage;
     print_programmed(tab, stage);

@@ -5,7 +5,6 @@ use crate::line::print_frame;
 use crate::line::print_number;
 use crate::line::print_octets;
 use crate::refusals::print_card;
-use card::Answer;
 use card::Card;
 
 // The number that the host of a card lends with each octet. It is fixed, so that every day prints the same; a real host lends a fresh one that nobody can guess.
@@ -128,21 +127,17 @@ fn card_hears(cards: Cards, place: usize, octet: u8) -> Cards
 // A card hears an octet, and its host says which number it got.
 fn hears(card: Card, octet: u8) -> Heard {
     let mut buffer = [0u8; 128];
+    let address = card.address;
     let stepped = card.octet(octet, &NA2, &mut buffer);
     let next = stepped.card;
     let answer = stepped.answer;
-    print_answer(card, answer);
+    print_card(address, answer.number());
     let reply = stepped.reply;
     Heard {
         card: next,
         octets: buffer,
         length: reply.0,
     }
-}
-
-fn print_answer(card: Card, answer: Answer) {
-    let address = card.address;
-    print_card(address, answer.number());
 }
 
 // Nothing more comes: the host of each card reports a session end.

@@ -39,8 +39,8 @@ damage-at-requires c κs = search needs
 add-i : tie.Need-add-i Inv-loop μ-loop
 add-i c = search needs
 
-read-requires : tie.Need-read-requires Inv-loop μ-loop
-read-requires c κs = search needs
+reading-requires : tie.Need-reading-requires Inv-loop μ-loop
+reading-requires c κs = search needs
 
 exchange-requires : tie.Need-exchange-requires Inv-loop μ-loop
 exchange-requires c κs = search needs
@@ -49,7 +49,7 @@ taken-requires : tie.Need-taken-requires Inv-loop μ-loop
 taken-requires c κs = search needs
 
 loop-less : tie.Need-loop-less Inv-loop μ-loop
-loop-less c = omega (arith, c .before .before .before .before .before .before .before .before .before .before .loop-test .taken)
+loop-less c = omega (arith, c .before .before .before .before .before .before .before .before .loop-test .taken)
 
 loop-again : tie.Need-loop-again Inv-loop μ-loop
 loop-again c = search needs
@@ -72,7 +72,7 @@ read-all-spec =
     shared-slice-read-tab
     damage-at-requires
     add-i
-    read-requires
+    reading-requires
     exchange-requires
     taken-requires
     loop-less
