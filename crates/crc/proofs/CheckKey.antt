@@ -32,8 +32,8 @@ unfolding checkKey remainder reduce number transmitted
 checkKey-nil = refl
 
 -- 16 bits after the octets: the remainder is the sum of the key's bits and these
-pub remainder-key : (s : List ℕ) (x : ℕ) → remainder (transmitted s ++ bits 16 x) ≡ bits 16 (bitXor (checkKey s) x)
-remainder-key s x =
+pub remainder-check-key : (s : List ℕ) (x : ℕ) → remainder (transmitted s ++ bits 16 x) ≡ bits 16 (bitXor (checkKey s) x)
+remainder-check-key s x =
     remainder-last (transmitted s) (bits 16 x) (length-bits 16 x) ∙ ap (λ (p : List Bool). plus p (bits 16 x)) (sym (checkKey-bits s))
     ∙ sym (bits-xor 16 (checkKey s) x)
 
@@ -52,7 +52,7 @@ one-octet o x h l =
     ap (λ (p : List Bool). remainder (p ++ replicate 8 false)) (bits-octets o x h)
     ∙ ap remainder
     (append-assoc (bits 8 o) (bits 8 x) (replicate 8 false) ∙ ap₂ {C = List Bool} _++_ (sym (transmitted-octet o)) (sym (bits-high 8 8 x l)))
-    ∙ remainder-key (o ∷ []) x
+    ∙ remainder-check-key (o ∷ []) x
 
 -- the key with one octet more is that of the register after eight places, once the octet is added to it
 next-octet : (s : List ℕ) (o : ℕ) → o < 256
@@ -63,7 +63,7 @@ next-octet s o h =
     ∙ append-assoc (transmitted s) (bits 8 o) (replicate 16 false) ∙ ap (λ (p : List Bool). transmitted s ++ p) (octet-zeros o h)
     ∙ sym (append-assoc (transmitted s) (bits 16 o) (replicate 8 false)))
     ∙ remainder-more (transmitted s ++ bits 16 o) (replicate 8 false) (rw (length-append, length-bits) (omega arith))
-    ∙ ap (λ (p : List Bool). remainder (p ++ replicate 8 false)) (remainder-key s o)
+    ∙ ap (λ (p : List Bool). remainder (p ++ replicate 8 false)) (remainder-check-key s o)
 
 xor-octet : (k o : ℕ) → o < 256 → bitXor k o ≡ k / 256 * 256 + bitXor (k % 256) o
 xor-octet k o h =

@@ -12,10 +12,10 @@ use lib.Dec.{eqb, eqb·suc-zero}
 use lib.ListN.{length, take, drop, getD, replicate, take-append-drop, drop-of-length-le}
 use lib.Seq.{drop-cons}
 use Rattle.crc.specs.Transmission.{bits, number, transmitted}
-use Rattle.crc.specs.AnnexE.{remainder, checkKey, keyOctets, isZero, divides}
+use Rattle.crc.specs.AnnexE.{remainder, checkKey, checkKeyOctets, isZero, divides}
 use Rattle.crc.proofs.Bits.{number-bits, bits-octets, transmitted-append}
 use Rattle.crc.proofs.Remainder.{times-powers}
-use Rattle.crc.proofs.CheckKey.{checkKey-lt, remainder-key}
+use Rattle.crc.proofs.CheckKey.{checkKey-lt, remainder-check-key}
 
 isZero-number : (p : List Bool) → isZero p ≡ eqb (number p) 0
 unfolding isZero number
@@ -28,9 +28,9 @@ isZero-number (false ∷ p) = isZero-number p ∙ go (number p)
     go (suc n) = eqb·suc-zero n ∙ sym (ne-eqb (suc n * 2 + 0) 0 (λ e. omega arith))
 
 -- octets are divisible exactly if their key is 0
-pub divides-key : (s : List ℕ) → divides s ≡ eqb (checkKey s) 0
+pub divides-check-key : (s : List ℕ) → divides s ≡ eqb (checkKey s) 0
 unfolding divides checkKey
-divides-key s = sym (times-powers 16 (transmitted s)) ∙ isZero-number (remainder (transmitted s ++ replicate 16 false))
+divides-check-key s = sym (times-powers 16 (transmitted s)) ∙ isZero-number (remainder (transmitted s ++ replicate 16 false))
 
 xor-zero : (a b : ℕ) → bitXor a b ≡ 0 → a ≡ b
 xor-zero a b e = omega (arith, xor-add-and a b, and-le-l a b, and-le-r a b)
@@ -49,14 +49,14 @@ divides-octets s low high hl hh =
     ap (λ (p : List Bool). isZero (remainder p))
     (transmitted-append s (low ∷ high ∷ []) ∙ ap (λ (p : List Bool). transmitted s ++ p)
     (ap (λ (p : List Bool). bits 8 low ++ p) (append-nil (bits 8 high)) ∙ sym (bits-octets low high hl)))
-    ∙ ap isZero (remainder-key s (high * 256 + low)) ∙ isZero-number (bits 16 (bitXor (checkKey s) (high * 256 + low)))
+    ∙ ap isZero (remainder-check-key s (high * 256 + low)) ∙ isZero-number (bits 16 (bitXor (checkKey s) (high * 256 + low)))
     ∙ ap (λ (n : ℕ). eqb n 0)
     (number-bits 16 (bitXor (checkKey s) (high * 256 + low)) (xor-lt 16 (checkKey s) (high * 256 + low) (checkKey-lt s) (omega arith)))
     ∙ eqb-xor (checkKey s) (high * 256 + low)
 
 -- octets followed by their key pass the test (E.2, E.3)
-pub key-appended : (s : List ℕ) → divides (s ++ keyOctets s) ≡ true
-key-appended s =
+pub check-key-appended : (s : List ℕ) → divides (s ++ checkKeyOctets s) ≡ true
+check-key-appended s =
     let h : checkKey s < 65536 = checkKey-lt s in
     divides-octets s (checkKey s % 256) (checkKey s / 256) (omega arith) (omega arith)
     ∙ eq-eqb (checkKey s) (checkKey s / 256 * 256 + checkKey s % 256) (omega arith)
@@ -72,8 +72,8 @@ last-octets t h =
 
 -- at least two octets pass the test exactly if the last two are the key of the rest
 module _ (t : List ℕ) (octets : (i : ℕ) → getD t i 0 < 256) (h : 2 ≤ length t) where
-  own-key : divides t ≡ true → drop (length t - 2) t ≡ keyOctets (take (length t - 2) t)
-  own-key d =
+  own-check-key : divides t ≡ true → drop (length t - 2) t ≡ checkKeyOctets (take (length t - 2) t)
+  own-check-key d =
       let s : List ℕ = take (length t - 2) t in
       let low : ℕ = getD t (length t - 2) 0 in
       let high : ℕ = getD t (length t - 1) 0 in
@@ -83,8 +83,8 @@ module _ (t : List ℕ) (octets : (i : ℕ) → getD t i 0 < 256) (h : 2 ≤ len
       = eqb-true (checkKey s) (high * 256 + low) (sym (divides-octets s low high hl (octets (length t - 1))) ∙ ap divides split ∙ d) in
       last-octets t h ∙ ap₂ {C = List ℕ} (λ l r. l ∷ r ∷ []) (let q : low ≡ checkKey s % 256 = omega arith in q) (let q : high ≡ checkKey s / 256 = omega arith in q)
 
-  pub divides-exactly : divides t ≡ true ↔ drop (length t - 2) t ≡ keyOctets (take (length t - 2) t)
+  pub divides-exactly : divides t ≡ true ↔ drop (length t - 2) t ≡ checkKeyOctets (take (length t - 2) t)
   divides-exactly = (
-    own-key,
-    λ e. ap divides (sym (take-append-drop (length t - 2) t) ∙ ap (λ (l : List ℕ). take (length t - 2) t ++ l) e) ∙ key-appended (take (length t - 2) t),
+    own-check-key,
+    λ e. ap divides (sym (take-append-drop (length t - 2) t) ∙ ap (λ (l : List ℕ). take (length t - 2) t ++ l) e) ∙ check-key-appended (take (length t - 2) t),
   )

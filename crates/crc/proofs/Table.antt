@@ -8,7 +8,7 @@ use native.Mathlib.Nat.{add-zero, zero-add, add-suc, suc-add, le-of-suc-le-suc, 
 use lib.Dec.{T, eqb, eqb→eq}
 use lib.ListN.{length, getD}
 use Rattle.crc.specs.AnnexE.{checkKey}
-use Rattle.crc.specs.Table.{OctetKeys}
+use Rattle.crc.specs.Table.{OctetCheckKeys}
 
 -- entry k of the table, counted from i, is f k
 abbrev pub holds : (ℕ → ℕ) → ℕ → List ℕ → Bool
@@ -33,5 +33,5 @@ from f (x ∷ t) i h (suc k) l =
 entries : (f : ℕ → ℕ) (t : List ℕ) → T (holds f 0 t) → (k : ℕ) → k < length t → getD t k 0 ≡ f k
 entries f t h k l = subst (λ (m : ℕ). getD t k 0 ≡ f m) (zero-add k) (from f t 0 h k l)
 
-pub octet-keys : (t : List ℕ) → length t ≡ 256 → T (holds (λ o. checkKey (o ∷ [])) 0 t) → OctetKeys t
-octet-keys t l h = record { entry = λ o b. entries (λ o. checkKey (o ∷ [])) t h o (rw l b) }
+pub octet-check-keys : (t : List ℕ) → length t ≡ 256 → T (holds (λ o. checkKey (o ∷ [])) 0 t) → OctetCheckKeys t
+octet-check-keys t l h = record { entry = λ o b. entries (λ o. checkKey (o ∷ [])) t h o (rw l b) }

@@ -24,8 +24,8 @@ unfoldable pub checkKey : List ℕ → ℕ
 checkKey s = number (remainder (transmitted s ++ replicate 16 false))
 
 -- The octets of the key in the order of transmission: the low octet holds r1 to r8.
-abbrev pub keyOctets : List ℕ → List ℕ
-keyOctets s = checkKey s % 256 ∷ checkKey s / 256 ∷ []
+abbrev pub checkKeyOctets : List ℕ → List ℕ
+checkKeyOctets s = checkKey s % 256 ∷ checkKey s / 256 ∷ []
 
 -- Every coefficient is 0.
 unfoldable pub isZero : List Bool → Bool

@@ -7,5 +7,5 @@ use lib.ListN.{getD}
 use Rattle.crc.specs.AnnexE.{checkKey}
 
 -- The table holds the check key of every single octet.
-pub record OctetKeys (table : List ℕ) : Type 0 where
+pub record OctetCheckKeys (table : List ℕ) : Type 0 where
   pub entry : (octet : ℕ) → octet < 256 → getD table octet 0 ≡ checkKey (octet ∷ [])

@@ -1,13 +1,13 @@
 // The CRC of IEC 62056-3-1, Annex E: the check key of a list of octets and the receiver's test.
 ghost use mathlib.Core.Path.{_≡_};
 ghost use Rattle.crc.specs.AnnexE.{checkKey, divides};
-ghost use Rattle.crc.specs.Table.{OctetKeys};
+ghost use Rattle.crc.specs.Table.{OctetCheckKeys};
 
-mod octet_keys;
+mod octet_check_keys;
 
 // The check key by the table. The register holds the key of the octets so far; its low octet is added to the next octet.
-fn key_by(table: &[u16; 256], s: &[u8]) -> u16
-    requires { ⌜ OctetKeys (now table) ⌝ }
+fn check_key_by(table: &[u16; 256], s: &[u8]) -> u16
+    requires { ⌜ OctetCheckKeys (now table) ⌝ }
     ensures { λ r. ⌜ r ≡ checkKey (now (s .entry)) ⌝ }
 {
     let mut register: u16 = 0;
@@ -21,16 +21,16 @@ fn key_by(table: &[u16; 256], s: &[u8]) -> u16
 }
 
 // The check key of the octets; its low octet is sent first.
-pub fn key(s: &[u8]) -> u16
+pub fn check_key(s: &[u8]) -> u16
     ensures { λ r. ⌜ r ≡ checkKey (now (s .entry)) ⌝ }
 {
-    let table = octet_keys::OCTET_KEYS;
-    key_by(&table, s)
+    let table = octet_check_keys::OCTET_CHECK_KEYS;
+    check_key_by(&table, s)
 }
 
 // The receiver's test: the polynomial of all the octets divides by D(X), as it does exactly if their key is 0.
 pub fn divisible(s: &[u8]) -> bool
     ensures { λ r. ⌜ r ≡ divides (now (s .entry)) ⌝ }
 {
-    key(s) == 0
+    check_key(s) == 0
 }

@@ -15,7 +15,7 @@ fn s_box(boxes: &[u8], j: u64, b: u64) -> u64
 {
     let row = b / 32 * 2 + b % 2;
     let column = b / 2 % 16;
-    words::wide(boxes[(j * 64 + row * 16 + column) as usize])
+    octets::wide(boxes[(j * 64 + row * 16 + column) as usize])
 }
 
 // The eight blocks of six bits of b through the eight S-boxes.

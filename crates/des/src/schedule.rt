@@ -43,9 +43,9 @@ fn shifts_to(shifts: &[u8], deciphering: bool, n: usize) -> u64
         if n == 1 {
             return 0;
         }
-        return 28 - words::wide(shifts[17 - n]);
+        return 28 - octets::wide(shifts[17 - n]);
     }
-    words::wide(shifts[n - 1])
+    octets::wide(shifts[n - 1])
 }
 
 // C and D of round n, from those of the round before.

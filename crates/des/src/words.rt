@@ -1,15 +1,8 @@
 // Strings of up to 64 bits in a word, bit 1 the highest.
 ghost use mathlib.Core.Path.{_≡_};
-ghost use Prim.Native.Nat.{_<_};
 ghost use lib.ListN.{length};
 ghost use Rattle.des.specs.Des.{bitsOf, bits, octets, permuted};
 ghost use Rattle.des.specs.Words.{Word, Selects};
-
-pub(crate) fn wide(x: u8) -> u64
-    ensures { λ r. ⌜ (r ≡ x) × (r < 256) ⌝ }
-{
-    x as u64
-}
 
 // The bits of a word of n bits that a table names, in the table's order.
 pub(crate) fn permuted(table: &[u8], n: u64, w: u64) -> u64
@@ -19,7 +12,7 @@ pub(crate) fn permuted(table: &[u8], n: u64, w: u64) -> u64
     let mut acc: u64 = 0;
     let mut i = 0;
     while i < table.len() {
-        acc = acc * 2 + (w >> (n - wide(table[i]))) % 2;
+        acc = acc * 2 + (w >> (n - octets::wide(table[i]))) % 2;
         i += 1;
     }
     acc
@@ -33,7 +26,7 @@ pub(crate) fn word(octets: &[u8]) -> u64
     let mut acc: u64 = 0;
     let mut i = 0;
     while i < octets.len() {
-        acc = acc * 256 + wide(octets[i]);
+        acc = acc * 256 + octets::wide(octets[i]);
         i += 1;
     }
     acc

@@ -6,9 +6,10 @@ mod tally;
 
 use libc::STDIN_FILENO;
 use libc::STDOUT_FILENO;
+use numbers::Octets;
 use tally::Tally;
+use text::put_hex;
 use text::put_number;
-use text::put_octets;
 use text::put_words;
 ghost use mathlib.Core.Path.{_≡_};
 ghost use Prim.Native.Nat.{_+_, _≤_};
@@ -25,9 +26,9 @@ struct Report {
 
 fn print_no_vector(line: u64) {
     let mut words = [0u8; 64];
-    let next = put_number(&mut words, 0, b"line ", line);
+    let next = put_number(&mut words, Octets(0), b"line ", line);
     let end = put_words(&mut words, next, b" is not a vector\n");
-    io::write_all(STDOUT_FILENO, octets::part(&words, 0, end));
+    io::write_all(STDOUT_FILENO, octets::part(&words, 0, end.0));
 }
 
 // Whether the octets found are those expected; a line says where they are not.
@@ -41,11 +42,11 @@ fn agrees(line: u64, way: &[u8], found: [u8; 8], expected: [u8; 8]) -> bool {
 
 fn print_difference(line: u64, way: &[u8], found: [u8; 8], expected: [u8; 8]) {
     let mut words = [0u8; 128];
-    let found_at = put_number(&mut words, 0, b"line ", line);
-    let expected_at = put_octets(&mut words, found_at, way, &found);
-    let next = put_octets(&mut words, expected_at, b" expected ", &expected);
+    let found_at = put_number(&mut words, Octets(0), b"line ", line);
+    let expected_at = put_hex(&mut words, found_at, way, &found);
+    let next = put_hex(&mut words, expected_at, b" expected ", &expected);
     let end = put_words(&mut words, next, b"\n");
-    io::write_all(STDOUT_FILENO, octets::part(&words, 0, end));
+    io::write_all(STDOUT_FILENO, octets::part(&words, 0, end.0));
 }
 
 // A vector both ways.

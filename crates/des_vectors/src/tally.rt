@@ -1,5 +1,6 @@
 // How many vectors were run, and how many came out right each way.
 use libc::STDOUT_FILENO;
+use numbers::Octets;
 use text::put_number;
 use text::put_words;
 
@@ -38,10 +39,10 @@ pub(crate) fn sum(a: Tally, b: Tally) -> Tally {
 // Writes a tally on a line of its own, under a name of any length.
 pub(crate) fn print(name: &[u8], t: Tally) {
     let mut line = [0u8; 128];
-    let enciphered_at = put_number(&mut line, 0, b" ", t.vectors);
+    let enciphered_at = put_number(&mut line, Octets(0), b" ", t.vectors);
     let deciphered_at = put_number(&mut line, enciphered_at, b" enciphered ", t.enciphered);
     let next = put_number(&mut line, deciphered_at, b" deciphered ", t.deciphered);
     let end = put_words(&mut line, next, b"\n");
     io::write_all(STDOUT_FILENO, name);
-    io::write_all(STDOUT_FILENO, octets::part(&line, 0, end));
+    io::write_all(STDOUT_FILENO, octets::part(&line, 0, end.0));
 }

@@ -7,6 +7,7 @@ use Rattle.frame.specs.declared.codes.Command.{Command}
 use Rattle.frame.specs.declared.layout.Presence.{Presence}
 use Rattle.frame.specs.declared.layout.Presence.the-variants.{Absent, Zero, Carried}
 use Rattle.frame.specs.declared.content.Fields.{Fields}
+use Rattle.frame.specs.Sizes.{fieldsAt, addressWidth, numberWidth}
 use Rattle.frame.specs.Layout.{layoutOf, placesOf}
 use Rattle.frame.specs.Content.{onWire, valueAt, octetAt, kept, keptOctet, fieldsOf, carried}
 use Rattle.frame.specs.Building.{fixedOf, bodyOf, frameOctets}
@@ -32,10 +33,10 @@ fields-carried c s =
     let l = layoutOf c in
     let p = placesOf l in
     rw (
-      kept-value (l .za1) 8 s 9,
-      kept-value (l .za2) 8 s (p .za2),
-      kept-octet (l .tab) s (p .tab),
-      kept-value (l .announced) 6 s (p .announced),
+      kept-value (l .za1) numberWidth s fieldsAt,
+      kept-value (l .za2) numberWidth s (p .za2 .0),
+      kept-octet (l .tab) s (p .tab .0),
+      kept-value (l .announced) addressWidth s (p .announced .0),
     )
 
 wire-kept : (p : Presence) (v : List ℕ) → onWire p (kept p v) ≡ onWire p v

@@ -6,10 +6,11 @@ use mathlib.Core.Bool.{false}
 use native.Mathlib.Omega.{arith}
 use lib.ListN.{length, getD}
 use Rattle.octets.proofs.Parts.{part-agree}
+use Rattle.numbers.specs.Answer.{given}
 use Rattle.frame.specs.declared.codes.Command.{Command}
 use Rattle.frame.specs.declared.layout.Layout.{Layout}
 use Rattle.frame.specs.declared.layout.Presence.the-variants.{Carried}
-use Rattle.frame.specs.declared.checks.Verdict.the-variants.{Good}
+use Rattle.frame.specs.Sizes.{adsAt, adpAt, comAt, fieldsAt, crcWidth, addressWidth, numberWidth, tabWidth}
 use Rattle.frame.specs.Layout.{layoutOf, width, placesOf}
 use Rattle.frame.specs.Content.{fieldsOf, dataOf, inZero, inZeroField}
 use Rattle.frame.specs.Checks.{inspected, readOf, fieldsIn}
@@ -20,64 +21,64 @@ use Rattle.frame.proofs.OneField.{value-agrees, octet-agrees, zero-not-
 
 -- offsets outside the zero fields: the head, each field that carries a value, and DATA
 module _ (l : Layout) (i : ℕ) where
-  none : inZero (l .za1) 8 9 i ≡ false → inZero (l .za2) 8 (placesOf l .za2) i ≡ false → inZero (l .tab) 1 (placesOf l .tab) i ≡ false
-      → inZero (l .announced) 6 (placesOf l .announced) i ≡ false → inZeroField l i ≡ false
+  none : inZero (l .za1) numberWidth fieldsAt i ≡ false → inZero (l .za2) numberWidth (placesOf l .za2 .0) i ≡ false → inZero (l .tab) tabWidth (placesOf l .tab .0) i ≡ false
+      → inZero (l .announced) addressWidth (placesOf l .announced .0) i ≡ false → inZeroField l i ≡ false
   unfolding inZeroField
   none a b c d = rw (a, b, c, d)
 
-  head-free : i < 9 → inZeroField l i ≡ false
+  head-free : i < fieldsAt → inZeroField l i ≡ false
   head-free h =
-      none (zero-not-before (l .za1) 8 9 i h) (zero-not-before (l .za2) 8 (placesOf l .za2) i (omega arith))
-      (zero-not-before (l .tab) 1 (placesOf l .tab) i (omega arith)) (zero-not-before (l .announced) 6 (placesOf l .announced) i (omega arith))
+      none (zero-not-before (l .za1) numberWidth fieldsAt i h) (zero-not-before (l .za2) numberWidth (placesOf l .za2 .0) i (omega arith))
+      (zero-not-before (l .tab) tabWidth (placesOf l .tab .0) i (omega arith)) (zero-not-before (l .announced) addressWidth (placesOf l .announced .0) i (omega arith))
 
-  za1-free : l .za1 ≡ Carried → i < placesOf l .za2 → inZeroField l i ≡ false
+  za1-free : l .za1 ≡ Carried → i < placesOf l .za2 .0 → inZeroField l i ≡ false
   za1-free e h =
-      none (zero-not-carried (l .za1) 8 9 i e) (zero-not-before (l .za2) 8 (placesOf l .za2) i h)
-      (zero-not-before (l .tab) 1 (placesOf l .tab) i (omega arith)) (zero-not-before (l .announced) 6 (placesOf l .announced) i (omega arith))
+      none (zero-not-carried (l .za1) numberWidth fieldsAt i e) (zero-not-before (l .za2) numberWidth (placesOf l .za2 .0) i h)
+      (zero-not-before (l .tab) tabWidth (placesOf l .tab .0) i (omega arith)) (zero-not-before (l .announced) addressWidth (placesOf l .announced .0) i (omega arith))
 
-  za2-free : l .za2 ≡ Carried → placesOf l .za2 ≤ i → i < placesOf l .tab → inZeroField l i ≡ false
+  za2-free : l .za2 ≡ Carried → placesOf l .za2 .0 ≤ i → i < placesOf l .tab .0 → inZeroField l i ≡ false
   za2-free e a h =
-      none (zero-not-after (l .za1) 8 9 i a) (zero-not-carried (l .za2) 8 (placesOf l .za2) i e)
-      (zero-not-before (l .tab) 1 (placesOf l .tab) i h) (zero-not-before (l .announced) 6 (placesOf l .announced) i (omega arith))
+      none (zero-not-after (l .za1) numberWidth fieldsAt i a) (zero-not-carried (l .za2) numberWidth (placesOf l .za2 .0) i e)
+      (zero-not-before (l .tab) tabWidth (placesOf l .tab .0) i h) (zero-not-before (l .announced) addressWidth (placesOf l .announced .0) i (omega arith))
 
-  tab-free : l .tab ≡ Carried → placesOf l .tab ≤ i → i < placesOf l .announced → inZeroField l i ≡ false
+  tab-free : l .tab ≡ Carried → placesOf l .tab .0 ≤ i → i < placesOf l .announced .0 → inZeroField l i ≡ false
   tab-free e a h =
-      none (zero-not-after (l .za1) 8 9 i (omega arith)) (zero-not-after (l .za2) 8 (placesOf l .za2) i a)
-      (zero-not-carried (l .tab) 1 (placesOf l .tab) i e) (zero-not-before (l .announced) 6 (placesOf l .announced) i h)
+      none (zero-not-after (l .za1) numberWidth fieldsAt i (omega arith)) (zero-not-after (l .za2) numberWidth (placesOf l .za2 .0) i a)
+      (zero-not-carried (l .tab) tabWidth (placesOf l .tab .0) i e) (zero-not-before (l .announced) addressWidth (placesOf l .announced .0) i h)
 
-  station-free : l .announced ≡ Carried → placesOf l .announced ≤ i → inZeroField l i ≡ false
-  station-free e a =
-      none (zero-not-after (l .za1) 8 9 i (omega arith)) (zero-not-after (l .za2) 8 (placesOf l .za2) i (omega arith))
-      (zero-not-after (l .tab) 1 (placesOf l .tab) i a) (zero-not-carried (l .announced) 6 (placesOf l .announced) i e)
+  announced-free : l .announced ≡ Carried → placesOf l .announced .0 ≤ i → inZeroField l i ≡ false
+  announced-free e a =
+      none (zero-not-after (l .za1) numberWidth fieldsAt i (omega arith)) (zero-not-after (l .za2) numberWidth (placesOf l .za2 .0) i (omega arith))
+      (zero-not-after (l .tab) tabWidth (placesOf l .tab .0) i a) (zero-not-carried (l .announced) addressWidth (placesOf l .announced .0) i e)
 
-  data-free : placesOf l .content ≤ i → inZeroField l i ≡ false
+  data-free : placesOf l .content .0 ≤ i → inZeroField l i ≡ false
   data-free a =
-      none (zero-not-after (l .za1) 8 9 i (omega arith)) (zero-not-after (l .za2) 8 (placesOf l .za2) i (omega arith))
-      (zero-not-after (l .tab) 1 (placesOf l .tab) i (omega arith)) (zero-not-after (l .announced) 6 (placesOf l .announced) i a)
+      none (zero-not-after (l .za1) numberWidth fieldsAt i (omega arith)) (zero-not-after (l .za2) numberWidth (placesOf l .za2 .0) i (omega arith))
+      (zero-not-after (l .tab) tabWidth (placesOf l .tab .0) i (omega arith)) (zero-not-after (l .announced) addressWidth (placesOf l .announced .0) i a)
 
 -- where s and t agree outside the zero fields and the CRC
-module _ (c : Command) (s t : List ℕ) (room : placesOf (layoutOf c) .content + 2 ≤ length s) (same-length : length s ≡ length t)
-    (same : (i : ℕ) → i + 2 < length s → inZeroField (layoutOf c) i ≡ false → getD s i 0 ≡ getD t i 0) where
+module _ (c : Command) (s t : List ℕ) (whole : placesOf (layoutOf c) .content .0 + crcWidth ≤ length s) (same-length : length s ≡ length t)
+    (same : (i : ℕ) → i + crcWidth < length s → inZeroField (layoutOf c) i ≡ false → getD s i 0 ≡ getD t i 0) where
   fields-same : fieldsOf c s ≡ fieldsOf c t
   unfolding fieldsOf
   fields-same =
       let l = layoutOf c in
       let p = placesOf l in
-      let ads = value-agrees Carried 6 s t 1 same-length (λ e i a b. same i (omega arith) (head-free l i (omega arith))) in
-      let za1 = value-agrees (l .za1) 8 s t 9 same-length (λ e i a b. let w : width (l .za1) 8 ≡ 8 = rw e in same i (omega arith) (za1-free l i e (omega arith))) in
-      let za2 = value-agrees (l .za2) 8 s t (p .za2) same-length (λ e i a b. let w : width (l .za2) 8 ≡ 8 = rw e in same i (omega arith) (za2-free l i e a (omega arith))) in
-      let tab = octet-agrees (l .tab) s t (p .tab) (λ e. let w : width (l .tab) 1 ≡ 1 = rw e in same (p .tab) (omega arith) (tab-free l (p .tab) e (omega arith) (omega arith))) in
-      let announced = value-agrees (l .announced) 6 s t (p .announced) same-length (λ e i a b. let w : width (l .announced) 6 ≡ 6 = rw e in same i (omega arith) (station-free l i e a)) in
-      rw (ads, same 7 (omega arith) (head-free l 7 (omega arith)), za1, za2, tab, announced)
+      let ads = value-agrees Carried addressWidth s t adsAt same-length (λ e i a b. same i (omega arith) (head-free l i (omega arith))) in
+      let za1 = value-agrees (l .za1) numberWidth s t fieldsAt same-length (λ e i a b. let w : width (l .za1) numberWidth ≡ numberWidth = rw e in same i (omega arith) (za1-free l i e (omega arith))) in
+      let za2 = value-agrees (l .za2) numberWidth s t (p .za2 .0) same-length (λ e i a b. let w : width (l .za2) numberWidth ≡ numberWidth = rw e in same i (omega arith) (za2-free l i e a (omega arith))) in
+      let tab = octet-agrees (l .tab) s t (p .tab .0) (λ e. let w : width (l .tab) tabWidth ≡ tabWidth = rw e in same (p .tab .0) (omega arith) (tab-free l (p .tab .0) e (omega arith) (omega arith))) in
+      let announced = value-agrees (l .announced) addressWidth s t (p .announced .0) same-length (λ e i a b. let w : width (l .announced) addressWidth ≡ addressWidth = rw e in same i (omega arith) (announced-free l i e a)) in
+      rw (ads, same adpAt (omega arith) (head-free l adpAt (omega arith)), za1, za2, tab, announced)
 
   data-same : dataOf c s ≡ dataOf c t
   unfolding dataOf
   data-same =
       rw (← same-length)
-      (part-agree s t (placesOf (layoutOf c) .content) (length s - 2) same-length (λ i a b. same i (omega arith) (data-free (layoutOf c) i a)))
+      (part-agree s t (placesOf (layoutOf c) .content .0) (length s - crcWidth) same-length (λ i a b. same i (omega arith) (data-free (layoutOf c) i a)))
 
-pub reads-same : (c e : Command) (s t : List ℕ) → inspected s ≡ Good c → inspected t ≡ Good e
-    → ((i : ℕ) → i + 2 < length s → inZeroField (layoutOf c) i ≡ false → getD s i 0 ≡ getD t i 0)
+pub reads-same : (c e : Command) (s t : List ℕ) → inspected s ≡ given c → inspected t ≡ given e
+    → ((i : ℕ) → i + crcWidth < length s → inZeroField (layoutOf c) i ≡ false → getD s i 0 ≡ getD t i 0)
     → (readOf s ≡ readOf t) × (dataOf c s ≡ dataOf c t)
 unfolding readOf fieldsIn
 reads-same c e s t good-s good-t same =
@@ -85,7 +86,7 @@ reads-same c e s t good-s good-t same =
     let gt = inspected-good t e good-t in
     let b = has-bounds (layoutOf c) (length s) (gs .checked .long) in
     let first : getD s 0 0 ≡ getD t 0 0 = same 0 (omega (arith, gs .least)) (head-free (layoutOf c) 0 (omega arith)) in
-    let code : getD s 8 0 ≡ getD t 8 0 = same 8 (omega (arith, gs .least)) (head-free (layoutOf c) 8 (omega arith)) in
+    let code : getD s comAt 0 ≡ getD t comAt 0 = same comAt (omega (arith, gs .least)) (head-free (layoutOf c) comAt (omega arith)) in
     let long : length s ≡ length t = omega (arith, gs .n, gt .n, first) in
     let command : c ≡ e = codes-differ c e (gs .checked .command ∙ code ∙ sym (gt .checked .command)) in (
       rw (good-s, good-t, ← command, fields-same c s t (omega arith) long same),

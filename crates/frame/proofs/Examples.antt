@@ -1,4 +1,4 @@
--- Worked frames of announced 112233445566 and primary 01, and the whole lengths of all commands: the definitions compute.
+-- Worked frames of station 112233445566 and primary 01, and the whole lengths of all commands: the definitions compute.
 use Prim.Native.Nat.{ℕ}
 use mathlib.Core.Path.{_≡_, refl}
 use mathlib.Core.List.{List, [], _∷_, map}
@@ -7,12 +7,12 @@ use lib.ListN.{replicate}
 use Rattle.octets.specs.Part.{partOf}
 use Rattle.octets.specs.Splice.{spliced}
 use Rattle.octets.specs.Between.{between}
+use Rattle.numbers.specs.Answer.{given, whenGiven}
 use Rattle.crc.specs.Polynomial.{plus, step, reduce}
 use Rattle.crc.specs.Transmission.{bits, number, transmitted}
 use Rattle.crc.specs.AnnexE.{remainder, checkKey, divides, isZero}
 use Rattle.frame.specs.declared.codes.Command.the-variants.{Enq, Rec, Eos, Rso}
 use Rattle.frame.specs.declared.content.Fields.{Fields}
-use Rattle.frame.specs.declared.checks.Verdict.the-variants.{Good}
 use Rattle.frame.specs.Codes.{codeOf, commands, among, commandOf}
 use Rattle.frame.specs.Layout.{layoutOf, wholeLength, canHave}
 use Rattle.frame.specs.Content.{onWire, valueAt, octetAt, fieldsOf}
@@ -31,8 +31,8 @@ enq-built : frameOctets Enq (withFields (replicate 8 0) 0x0A (replicate 6 0)) []
 unfolding frameOctets bodyOf fixedOf headOf onWire layoutOf codeOf checkKey remainder reduce step plus xor bits number transmitted
 enq-built = refl
 
-enq-read : readOf enq ≡ record { verdict = Good Enq; fields = withFields (replicate 8 0) 0x0A (replicate 6 0) }
-unfolding readOf fieldsIn inspected inspectedAs statedBy judged judgedAs canHave between commandOf among codeOf layoutOf fieldsOf valueAt octetAt spliced partOf divides isZero remainder reduce step plus xor bits transmitted
+enq-read : readOf enq ≡ record { verdict = given Enq; fields = withFields (replicate 8 0) 0x0A (replicate 6 0) }
+unfolding readOf fieldsIn inspected inspectedAs statedBy judged judgedAs whenGiven canHave between commandOf among codeOf layoutOf fieldsOf valueAt octetAt spliced partOf divides isZero remainder reduce step plus xor bits transmitted
 enq-read = refl
 
 abbrev rec : List ℕ
@@ -42,8 +42,8 @@ rec-built : frameOctets Rec (withFields (0x01 ∷ 0x23 ∷ 0x45 ∷ 0x67 ∷ 0x8
 unfolding frameOctets bodyOf fixedOf headOf onWire layoutOf codeOf checkKey remainder reduce step plus xor bits number transmitted
 rec-built = refl
 
-rec-read : readOf rec ≡ record { verdict = Good Rec; fields = withFields (0x01 ∷ 0x23 ∷ 0x45 ∷ 0x67 ∷ 0x89 ∷ 0xAB ∷ 0xCD ∷ 0xEF ∷ []) 0x0A (replicate 6 0) }
-unfolding readOf fieldsIn inspected inspectedAs statedBy judged judgedAs canHave between commandOf among codeOf layoutOf fieldsOf valueAt octetAt spliced partOf divides isZero remainder reduce step plus xor bits transmitted
+rec-read : readOf rec ≡ record { verdict = given Rec; fields = withFields (0x01 ∷ 0x23 ∷ 0x45 ∷ 0x67 ∷ 0x89 ∷ 0xAB ∷ 0xCD ∷ 0xEF ∷ []) 0x0A (replicate 6 0) }
+unfolding readOf fieldsIn inspected inspectedAs statedBy judged judgedAs whenGiven canHave between commandOf among codeOf layoutOf fieldsOf valueAt octetAt spliced partOf divides isZero remainder reduce step plus xor bits transmitted
 rec-read = refl
 
 abbrev eos : List ℕ
@@ -53,8 +53,8 @@ eos-built : frameOctets Eos (withFields (replicate 8 0) 0 (replicate 6 0)) [] �
 unfolding frameOctets bodyOf fixedOf headOf onWire layoutOf codeOf checkKey remainder reduce step plus xor bits number transmitted
 eos-built = refl
 
-eos-read : readOf eos ≡ record { verdict = Good Eos; fields = withFields (replicate 8 0) 0 (replicate 6 0) }
-unfolding readOf fieldsIn inspected inspectedAs statedBy judged judgedAs canHave between commandOf among codeOf layoutOf fieldsOf valueAt octetAt spliced partOf divides isZero remainder reduce step plus xor bits transmitted
+eos-read : readOf eos ≡ record { verdict = given Eos; fields = withFields (replicate 8 0) 0 (replicate 6 0) }
+unfolding readOf fieldsIn inspected inspectedAs statedBy judged judgedAs whenGiven canHave between commandOf among codeOf layoutOf fieldsOf valueAt octetAt spliced partOf divides isZero remainder reduce step plus xor bits transmitted
 eos-read = refl
 
 abbrev rso : List ℕ
@@ -64,8 +64,8 @@ rso-built : frameOctets Rso (withFields (replicate 8 0) 0x0A (0x11 ∷ 0x22 ∷ 
 unfolding frameOctets bodyOf fixedOf headOf onWire layoutOf codeOf checkKey remainder reduce step plus xor bits number transmitted
 rso-built = refl
 
-rso-read : readOf rso ≡ record { verdict = Good Rso; fields = withFields (replicate 8 0) 0x0A (0x11 ∷ 0x22 ∷ 0x33 ∷ 0x44 ∷ 0x55 ∷ 0x66 ∷ []) }
-unfolding readOf fieldsIn inspected inspectedAs statedBy judged judgedAs canHave between commandOf among codeOf layoutOf fieldsOf valueAt octetAt spliced partOf divides isZero remainder reduce step plus xor bits transmitted
+rso-read : readOf rso ≡ record { verdict = given Rso; fields = withFields (replicate 8 0) 0x0A (0x11 ∷ 0x22 ∷ 0x33 ∷ 0x44 ∷ 0x55 ∷ 0x66 ∷ []) }
+unfolding readOf fieldsIn inspected inspectedAs statedBy judged judgedAs whenGiven canHave between commandOf among codeOf layoutOf fieldsOf valueAt octetAt spliced partOf divides isZero remainder reduce step plus xor bits transmitted
 rso-read = refl
 
 -- the shortest and the longest whole length of each command, in the order of Table D.1

@@ -7,7 +7,7 @@ use native.Mathlib.Omega.{arith}
 use lib.ListN.{length}
 use lib.Dec.{lit<}
 use Rattle.octets.proofs.Below.{Below, below-nil, below-cons, below-append, below-reverse, below-replicate}
-use Rattle.crc.specs.AnnexE.{checkKey, keyOctets}
+use Rattle.crc.specs.AnnexE.{checkKey, checkKeyOctets}
 use Rattle.crc.proofs.CheckKey.{checkKey-lt}
 use Rattle.frame.specs.declared.codes.Command.{Command}
 use Rattle.frame.specs.declared.codes.Command.the-variants.{Enq, Dat, Rec, Ech, Aut, Eos, Aso, Rso, Ib, Drj, Arj, Trf, Trb, Tra, Pre, Sel}
@@ -49,7 +49,7 @@ wire-octets Absent v h = below-nil 256 some
 wire-octets Zero v h = below-replicate 256 some (length v) 0 some
 wire-octets Carried v h = below-reverse 256 some v h
 
-key-octets : (s : List ℕ) → Below 256 (keyOctets s)
+key-octets : (s : List ℕ) → Below 256 (checkKeyOctets s)
 key-octets s =
     let h : checkKey s < 65536 = checkKey-lt s in
     below-cons 256 some (checkKey s % 256) (checkKey s / 256 ∷ []) (omega arith)
@@ -75,7 +75,7 @@ fixed-octets l f long =
     let one = below-cons 256 some (f .tab) [] (long .tab-octet) (below-nil 256 some) in
     joined za1 (za2 ++ (tab ++ announced)) (wire-octets (l .za1) (f .za1) (long .za1-octets))
     (joined za2 (tab ++ announced) (wire-octets (l .za2) (f .za2) (long .za2-octets))
-    (joined tab announced (wire-octets (l .tab) (f .tab ∷ []) one) (wire-octets (l .announced) (f .announced) (long .station-octets))))
+    (joined tab announced (wire-octets (l .tab) (f .tab ∷ []) one) (wire-octets (l .announced) (f .announced) (long .announced-octets))))
 
 pub frame-octets : (c : Command) (f : Fields) (d : List ℕ) → Shaped f → within (layoutOf c) (length d) ≡ true → Below 256 d → Below 256 (frameOctets c f d)
 unfolding frameOctets bodyOf
@@ -83,7 +83,7 @@ frame-octets c f d long w data-octets =
     let l = layoutOf c in
     let head = headOf (wholeLength l (length d)) (f .ads) (f .adp) (codeOf c) in
     let n : wholeLength l (length d) < 256 = omega (arith, limits c, within-bounds l (length d) w) in
-    joined (head ++ (fixedOf l f ++ d)) (keyOctets (head ++ (fixedOf l f ++ d)))
+    joined (head ++ (fixedOf l f ++ d)) (checkKeyOctets (head ++ (fixedOf l f ++ d)))
     (joined head (fixedOf l f ++ d) (head-octets (wholeLength l (length d)) (f .ads) (f .adp) (codeOf c) n (long .ads-octets) (long .adp-octet) (code-octet c))
     (joined (fixedOf l f) d (fixed-octets l f long) data-octets))
     (key-octets (head ++ (fixedOf l f ++ d)))

@@ -4,6 +4,7 @@ mod Told
 mod Steps
 pub mod Shape
 mod Writing
+pub mod BadFrame
 pub mod GoodFrame
 pub mod OneField
 pub mod ReadBack

@@ -1,6 +1,6 @@
 -- One field, written and read: a field that is read back, a field that is written as it was read, and a field of two frames that agree.
 use Prim.Native.Nat.{ℕ, suc, _+_, _-_, _≤_, _<_}
-use mathlib.Core.Path.{_≡_, refl, sym, _∙_}
+use mathlib.Core.Path.{_≡_, refl, sym, ap, _∙_}
 use mathlib.Core.List.{List, [], _∷_, _++_, reverse, reverse-reverse}
 use mathlib.Core.Bool.{true, false, and-false}
 use native.Mathlib.Nat.{add-zero}
@@ -10,6 +10,7 @@ use lib.Seq.{getD-at, ext-getD}
 use lib.Dec.{leb}
 use borrow.Author.Tests.{le-leb, lt-leb, lt-ltb, le-ltb}
 use Rattle.octets.specs.Part.{partOf}
+use Rattle.octets.specs.Splice.{spliced}
 use Rattle.octets.proofs.Parts.{part-middle, part-none, part-agree, part-cons, length-part, getD-part}
 use Rattle.octets.proofs.Splice.{spliced-whole}
 use Rattle.frame.specs.declared.layout.Presence.{Presence}
@@ -31,6 +32,11 @@ unfolding onWire octetAt keptOctet
 octet-on-wire Absent x before after at h = refl
 octet-on-wire Zero x before after at h = refl
 octet-on-wire Carried x before after at h = getD-at before x after 0 at h
+
+-- a carried field read over as many zeros as it has octets
+pub value-over-zeros : (v s : List ℕ) (at : ℕ) → v ≡ replicate (length v) 0 → spliced v 0 (turned (partOf s at (at + length v))) ≡ valueAt Carried (length v) s at
+unfolding valueAt
+value-over-zeros v s at e = ap (λ (l : List ℕ). spliced l 0 (turned (partOf s at (at + length v)))) e
 
 -- a carried field that the frame has
 value-carried : (n : ℕ) (s : List ℕ) (at : ℕ) → at + n ≤ length s → valueAt Carried n s at ≡ turned (partOf s at (at + n))

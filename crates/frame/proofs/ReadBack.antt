@@ -9,13 +9,13 @@ use lib.Seq.{getD-at, getD-append-add}
 use borrow.Author.Tests.{eq-eqb}
 use Rattle.octets.proofs.Parts.{part-middle}
 use Rattle.octets.proofs.Bounds.{between-both}
-use Rattle.crc.specs.AnnexE.{keyOctets, divides}
-use Rattle.crc.proofs.Receiver.{key-appended}
+use Rattle.crc.specs.AnnexE.{checkKeyOctets, divides}
+use Rattle.crc.proofs.Receiver.{check-key-appended}
+use Rattle.numbers.specs.Answer.{given, whenGiven}
 use Rattle.frame.specs.declared.codes.Command.{Command}
-use Rattle.frame.specs.declared.codes.Lookup.the-variants.{Found}
 use Rattle.frame.specs.declared.layout.Presence.the-variants.{Carried}
-use Rattle.frame.specs.declared.checks.Verdict.the-variants.{Good}
 use Rattle.frame.specs.declared.content.Fields.{Fields}
+use Rattle.frame.specs.Sizes.{shortestFrame, longestFrame, adsAt, adpAt, comAt, fieldsAt, crcWidth, addressWidth, numberWidth, tabWidth}
 use Rattle.frame.specs.Codes.{codeOf, commandOf}
 use Rattle.frame.specs.Layout.{layoutOf, width, placesOf, wholeLength, within}
 use Rattle.frame.specs.Content.{Shaped, onWire, valueAt, octetAt, kept, keptOctet, fieldsOf, dataOf, carried}
@@ -28,7 +28,7 @@ use Rattle.frame.proofs.OneField.{value-on-wire, octet-on-wire}
 use Rattle.frame.proofs.Writing.{length-on-wire, length-head, length-octets}
 
 -- what stands in the head
-module _ (n : ℕ) (ads : List ℕ) (adp code : ℕ) (rest : List ℕ) (six : length ads ≡ 6) where
+module _ (n : ℕ) (ads : List ℕ) (adp code : ℕ) (rest : List ℕ) (six : length ads ≡ addressWidth) where
   turned-six : length (reverse ads) ≡ 6
   turned-six = length-reverse ads ∙ six
 
@@ -86,77 +86,77 @@ module _ (c : Command) (f : Fields) (d : List ℕ) (long : Shaped f) where
   announced = onWire (layoutOf c .announced) (f .announced)
 
   abbrev key : List ℕ
-  key = keyOctets (bodyOf c f d)
+  key = checkKeyOctets (bodyOf c f d)
 
   nested : frameOctets c f d ≡ head ++ (za1 ++ (za2 ++ (tab ++ (announced ++ (d ++ key)))))
   unfolding frameOctets bodyOf fixedOf
   nested = flat head za1 za2 tab announced d key
 
-  nine : length head ≡ 9
+  nine : length head ≡ fieldsAt
   nine = length-head (wholeLength (layoutOf c) (length d)) (f .ads) (f .adp) (codeOf c) (long .ads-long)
 
-  z1 : length za1 ≡ width (layoutOf c .za1) 8
-  z1 = length-on-wire (layoutOf c .za1) (f .za1) 8 (long .za1-long)
+  z1 : length za1 ≡ width (layoutOf c .za1) numberWidth
+  z1 = length-on-wire (layoutOf c .za1) (f .za1) numberWidth (long .za1-long)
 
-  z2 : length za2 ≡ width (layoutOf c .za2) 8
-  z2 = length-on-wire (layoutOf c .za2) (f .za2) 8 (long .za2-long)
+  z2 : length za2 ≡ width (layoutOf c .za2) numberWidth
+  z2 = length-on-wire (layoutOf c .za2) (f .za2) numberWidth (long .za2-long)
 
-  t1 : length tab ≡ width (layoutOf c .tab) 1
-  t1 = length-on-wire (layoutOf c .tab) (f .tab ∷ []) 1 refl
+  t1 : length tab ≡ width (layoutOf c .tab) tabWidth
+  t1 = length-on-wire (layoutOf c .tab) (f .tab ∷ []) tabWidth refl
 
-  s1 : length announced ≡ width (layoutOf c .announced) 6
-  s1 = length-on-wire (layoutOf c .announced) (f .announced) 6 (long .station-long)
+  s1 : length announced ≡ width (layoutOf c .announced) addressWidth
+  s1 = length-on-wire (layoutOf c .announced) (f .announced) addressWidth (long .announced-long)
 
-  reads-ads : valueAt Carried 6 (frameOctets c f d) 1 ≡ f .ads
+  reads-ads : valueAt Carried addressWidth (frameOctets c f d) adsAt ≡ f .ads
   reads-ads = rw nested (head-ads _ (f .ads) (f .adp) (codeOf c) _ (long .ads-long))
 
-  reads-adp : getD (frameOctets c f d) 7 0 ≡ f .adp
+  reads-adp : getD (frameOctets c f d) adpAt 0 ≡ f .adp
   reads-adp = rw nested (head-adp _ (f .ads) (f .adp) (codeOf c) _ (long .ads-long))
 
-  reads-za1 : valueAt (layoutOf c .za1) 8 (frameOctets c f d) 9 ≡ kept (layoutOf c .za1) (f .za1)
+  reads-za1 : valueAt (layoutOf c .za1) numberWidth (frameOctets c f d) fieldsAt ≡ kept (layoutOf c .za1) (f .za1)
   reads-za1 =
       rw nested
-      (value-on-wire (layoutOf c .za1) (f .za1) 8 head (za2 ++ (tab ++ (announced ++ (d ++ key)))) 9 (long .za1-long) nine)
+      (value-on-wire (layoutOf c .za1) (f .za1) numberWidth head (za2 ++ (tab ++ (announced ++ (d ++ key)))) 9 (long .za1-long) nine)
 
-  reads-za2 : valueAt (layoutOf c .za2) 8 (frameOctets c f d) (placesOf (layoutOf c) .za2) ≡ kept (layoutOf c .za2) (f .za2)
+  reads-za2 : valueAt (layoutOf c .za2) numberWidth (frameOctets c f d) (placesOf (layoutOf c) .za2 .0) ≡ kept (layoutOf c .za2) (f .za2)
   reads-za2 =
       rw (nested, cut-2 head za1 za2 tab announced d key)
-      (value-on-wire (layoutOf c .za2) (f .za2) 8 (head ++ za1) (tab ++ (announced ++ (d ++ key))) (placesOf (layoutOf c) .za2) (long .za2-long)
+      (value-on-wire (layoutOf c .za2) (f .za2) numberWidth (head ++ za1) (tab ++ (announced ++ (d ++ key))) (placesOf (layoutOf c) .za2 .0) (long .za2-long)
       (rw (length-append, nine, z1)))
 
-  reads-tab : octetAt (layoutOf c .tab) (frameOctets c f d) (placesOf (layoutOf c) .tab) ≡ keptOctet (layoutOf c .tab) (f .tab)
+  reads-tab : octetAt (layoutOf c .tab) (frameOctets c f d) (placesOf (layoutOf c) .tab .0) ≡ keptOctet (layoutOf c .tab) (f .tab)
   reads-tab =
       rw (nested, cut-3 head za1 za2 tab announced d key)
-      (octet-on-wire (layoutOf c .tab) (f .tab) (head ++ za1 ++ za2) (announced ++ (d ++ key)) (placesOf (layoutOf c) .tab)
+      (octet-on-wire (layoutOf c .tab) (f .tab) (head ++ za1 ++ za2) (announced ++ (d ++ key)) (placesOf (layoutOf c) .tab .0)
       (rw (length-append, length-append, nine, z1, z2)))
 
-  reads-station : valueAt (layoutOf c .announced) 6 (frameOctets c f d) (placesOf (layoutOf c) .announced) ≡ kept (layoutOf c .announced) (f .announced)
-  reads-station =
+  reads-announced : valueAt (layoutOf c .announced) addressWidth (frameOctets c f d) (placesOf (layoutOf c) .announced .0) ≡ kept (layoutOf c .announced) (f .announced)
+  reads-announced =
       rw (nested, cut-4 head za1 za2 tab announced d key)
-      (value-on-wire (layoutOf c .announced) (f .announced) 6 (head ++ za1 ++ za2 ++ tab) (d ++ key) (placesOf (layoutOf c) .announced) (long .station-long)
+      (value-on-wire (layoutOf c .announced) (f .announced) addressWidth (head ++ za1 ++ za2 ++ tab) (d ++ key) (placesOf (layoutOf c) .announced .0) (long .announced-long)
       (rw (length-append, length-append, length-append, nine, z1, z2, t1)))
 
   pub reads-fields : fieldsOf c (frameOctets c f d) ≡ carried c f
   unfolding fieldsOf carried
-  reads-fields = rw (reads-ads, reads-adp, reads-za1, reads-za2, reads-tab, reads-station)
+  reads-fields = rw (reads-ads, reads-adp, reads-za1, reads-za2, reads-tab, reads-announced)
 
   pub reads-data : dataOf c (frameOctets c f d) ≡ d
   unfolding dataOf
   reads-data =
-      let e : placesOf (layoutOf c) .content + length d ≡ length (frameOctets c f d) - 2 = omega (arith, length-octets c f d long) in
+      let e : placesOf (layoutOf c) .content .0 + length d ≡ length (frameOctets c f d) - crcWidth = omega (arith, length-octets c f d long) in
       rw (← e, nested, cut-5 head za1 za2 tab announced d key)
-      (part-middle (head ++ za1 ++ za2 ++ tab ++ announced) d key (placesOf (layoutOf c) .content) (placesOf (layoutOf c) .content + length d)
+      (part-middle (head ++ za1 ++ za2 ++ tab ++ announced) d key (placesOf (layoutOf c) .content .0) (placesOf (layoutOf c) .content .0 + length d)
       (rw (length-append, length-append, length-append, length-append, nine, z1, z2, t1, s1)) refl)
 
   passes : divides (frameOctets c f d) ≡ true
   unfolding frameOctets
-  passes = key-appended (bodyOf c f d)
+  passes = check-key-appended (bodyOf c f d)
 
-  named : commandOf (getD (frameOctets c f d) 8 0) ≡ Found c
+  named : commandOf (getD (frameOctets c f d) comAt 0) ≡ given c
   named = rw (nested, head-code _ (f .ads) (f .adp) (codeOf c) _ (long .ads-long)) (found c)
 
-  pub is-good : within (layoutOf c) (length d) ≡ true → inspected (frameOctets c f d) ≡ Good c
-  unfolding inspectedAs judged judgedAs statedBy
+  pub is-good : within (layoutOf c) (length d) ≡ true → inspected (frameOctets c f d) ≡ given c
+  unfolding inspectedAs judged judgedAs statedBy whenGiven
   is-good w =
       let n = wholeLength (layoutOf c) (length d) in
       let whole : length (frameOctets c f d) ≡ n = length-octets c f d long in
@@ -165,7 +165,7 @@ module _ (c : Command) (f : Fields) (d : List ℕ) (long : Shaped f) where
       rw (
         inspected-from (frameOctets c f d) (λ e. absurd (none (sym whole ∙ e))),
         first,
-        between-both 11 128 n (omega arith) (omega (arith, limits c)),
+        between-both shortestFrame longestFrame n (omega arith) (omega (arith, limits c)),
         eq-eqb (length (frameOctets c f d)) n whole,
         passes,
         named,
@@ -175,6 +175,6 @@ module _ (c : Command) (f : Fields) (d : List ℕ) (long : Shaped f) where
       none : wholeLength (layoutOf c) (length d) ≡ 0 → ⊥
       none e = omega arith
 
-  pub reads-back : within (layoutOf c) (length d) ≡ true → readOf (frameOctets c f d) ≡ record { verdict = Good c; fields = carried c f }
+  pub reads-back : within (layoutOf c) (length d) ≡ true → readOf (frameOctets c f d) ≡ record { verdict = given c; fields = carried c f }
   unfolding readOf fieldsIn
   reads-back w = rw (is-good w, reads-fields)

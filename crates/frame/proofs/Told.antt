@@ -2,9 +2,9 @@
 use mathlib.Core.Path.{_≡_, refl, sym}
 use mathlib.Core.Bool.{Bool, true, false, cond}
 use Rattle.frame.specs.declared.checks.Extent.the-variants.{Exact, Other}
-use Rattle.frame.specs.declared.checks.Key.the-variants.{Passes, Fails}
+use Rattle.frame.specs.declared.checks.CheckKey.the-variants.{Passes, Fails}
 use Rattle.frame.specs.declared.checks.Span.the-variants.{Possible, Impossible}
-use Rattle.frame.specs.declared.builder.Room.the-variants.{Enough, Short}
+use Rattle.frame.specs.declared.builder.Capacity.the-variants.{Enough, Short}
 use Rattle.frame.specs.declared.builder.Amount.the-variants.{Within, Beyond}
 
 module _ {A : Type 0} {first second : A} (differ : first ≡ second → false ≡ true) where
@@ -17,8 +17,8 @@ module _ {A : Type 0} {first second : A} (differ : first ≡ second → false �
   told-second false e told = refl
 
 -- each check's two answers differ
-pub keys-differ : Passes ≡ Fails → false ≡ true
-keys-differ e = cc
+pub check-keys-differ : Passes ≡ Fails → false ≡ true
+check-keys-differ e = cc
 
 pub spans-differ : Possible ≡ Impossible → false ≡ true
 spans-differ e = cc
@@ -26,8 +26,8 @@ spans-differ e = cc
 pub extents-differ : Exact ≡ Other → false ≡ true
 extents-differ e = cc
 
-pub rooms-differ : Enough ≡ Short → false ≡ true
-rooms-differ e = cc
+pub capacities-differ : Enough ≡ Short → false ≡ true
+capacities-differ e = cc
 
 pub amounts-differ : Within ≡ Beyond → false ≡ true
 amounts-differ e = cc

@@ -10,6 +10,7 @@ use Rattle.frame.specs.declared.codes.Command.the-variants.{Enq, Dat, Re
 use Rattle.frame.specs.declared.layout.Presence.{Presence}
 use Rattle.frame.specs.declared.layout.Presence.the-variants.{Absent, Zero, Carried}
 use Rattle.frame.specs.declared.layout.Layout.{Layout}
+use Rattle.frame.specs.Sizes.{longestFrame, addressWidth, numberWidth, tabWidth, mostBeforeData}
 use Rattle.frame.specs.Layout.{layoutOf, width, placesOf, wholeLength, within, canHave}
 
 pub width-most : (p : Presence) (n : ℕ) → width p n ≤ n
@@ -17,13 +18,13 @@ width-most Absent n = omega arith
 width-most Zero n = omega arith
 width-most Carried n = omega arith
 
--- the fields before DATA take 32 octets at most
-pub content-most : (l : Layout) → placesOf l .content ≤ 32
+-- the octets before DATA
+pub content-most : (l : Layout) → placesOf l .content .0 ≤ mostBeforeData
 content-most l =
-    omega (arith, width-most (l .za1) 8, width-most (l .za2) 8, width-most (l .tab) 1, width-most (l .announced) 6)
+    omega (arith, width-most (l .za1) numberWidth, width-most (l .za2) numberWidth, width-most (l .tab) tabWidth, width-most (l .announced) addressWidth)
 
 -- DATA's limits are in order, and the longest frame of any command has 128 octets at most
-pub limits : (c : Command) → (layoutOf c .least .0 ≤ layoutOf c .most .0) × (wholeLength (layoutOf c) (layoutOf c .most .0) ≤ 128)
+pub limits : (c : Command) → (layoutOf c .least .0 ≤ layoutOf c .most .0) × (wholeLength (layoutOf c) (layoutOf c .most .0) ≤ longestFrame)
 unfolding layoutOf
 limits Enq = (lit≤ tt, lit≤ tt)
 limits Dat = (lit≤ tt, lit≤ tt)

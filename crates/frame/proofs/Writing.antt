@@ -8,12 +8,13 @@ use lib.ListN.{length, take, replicate, length-append, length-reverse, length-re
 use borrow.Rule.Slice.PartMut.{putMid}
 use Rattle.octets.specs.Splice.{spliced, fronted}
 use Rattle.octets.proofs.Splice.{spliced-fits, spliced-front, spliced-next, take-fronted, length-fronted, spliced-after, lent-spliced}
-use Rattle.crc.specs.AnnexE.{keyOctets}
+use Rattle.crc.specs.AnnexE.{checkKeyOctets}
 use Rattle.frame.specs.declared.layout.Presence.{Presence}
 use Rattle.frame.specs.declared.layout.Presence.the-variants.{Absent, Zero, Carried}
 use Rattle.frame.specs.declared.codes.Command.{Command}
 use Rattle.frame.specs.declared.layout.Layout.{Layout}
 use Rattle.frame.specs.declared.content.Fields.{Fields}
+use Rattle.frame.specs.Sizes.{fieldsAt, crcWidth, addressWidth, numberWidth, tabWidth}
 use Rattle.frame.specs.Codes.{codeOf}
 use Rattle.frame.specs.Layout.{layoutOf, width, placesOf, wholeLength}
 use Rattle.frame.specs.Content.{Shaped, turned, onWire}
@@ -21,13 +22,13 @@ use Rattle.frame.specs.Building.{headOf, fixedOf, bodyOf, frameOctets, c
 use Rattle.frame.proofs.Widths.{width-most}
 
 -- the address turned into the middle of the head
-pub head-made : (n : ℕ) (ads : List ℕ) (adp code : ℕ) → length ads ≡ 6 → spliced (n ∷ 0 ∷ 0 ∷ 0 ∷ 0 ∷ 0 ∷ 0 ∷ adp ∷ code ∷ []) 1 (turned ads) ≡ headOf n ads adp code
+pub head-made : (n : ℕ) (ads : List ℕ) (adp code : ℕ) → length ads ≡ addressWidth → spliced (n ∷ 0 ∷ 0 ∷ 0 ∷ 0 ∷ 0 ∷ 0 ∷ adp ∷ code ∷ []) 1 (turned ads) ≡ headOf n ads adp code
 unfolding headOf
 head-made n ads adp code e =
-    let k : length (reverse ads) ≡ 6 = length-reverse ads ∙ e in
+    let k : length (reverse ads) ≡ addressWidth = length-reverse ads ∙ e in
     rw (spliced-fits (n ∷ 0 ∷ 0 ∷ 0 ∷ 0 ∷ 0 ∷ 0 ∷ adp ∷ code ∷ []) 1 (reverse ads) (omega arith), k)
 
-pub length-head : (n : ℕ) (ads : List ℕ) (adp code : ℕ) → length ads ≡ 6 → length (headOf n ads adp code) ≡ 9
+pub length-head : (n : ℕ) (ads : List ℕ) (adp code : ℕ) → length ads ≡ addressWidth → length (headOf n ads adp code) ≡ fieldsAt
 unfolding headOf
 length-head n ads adp code e = rw (length-append, length-reverse, e)
 
@@ -66,34 +67,34 @@ fields-made b at v w x y h =
     )
 
 -- the CRC after the octets at the front
-pub closed-front : (p b : List ℕ) (end : ℕ) → length p ≡ end → end + 2 ≤ length b → closed (fronted p b) end ≡ fronted (p ++ keyOctets p) b
+pub closed-front : (p b : List ℕ) (end : ℕ) → length p ≡ end → end + crcWidth ≤ length b → closed (fronted p b) end ≡ fronted (p ++ checkKeyOctets p) b
 closed-front p b end e h =
-    rw (← e, take-fronted p b) (spliced-next p b (keyOctets p) (length p) refl (omega arith))
+    rw (← e, take-fronted p b) (spliced-next p b (checkKeyOctets p) (length p) refl (omega arith))
 
 -- the fields between COM and DATA take the octets that the layout gives them
-pub length-fixed : (l : Layout) (f : Fields) → Shaped f → 9 + length (fixedOf l f) ≡ placesOf l .content
+pub length-fixed : (l : Layout) (f : Fields) → Shaped f → fieldsAt + length (fixedOf l f) ≡ placesOf l .content .0
 unfolding fixedOf
 length-fixed l f long =
     rw (
       length-append,
       length-append,
       length-append,
-      length-on-wire (l .za1) (f .za1) 8 (long .za1-long),
-      length-on-wire (l .za2) (f .za2) 8 (long .za2-long),
-      length-on-wire (l .tab) (f .tab ∷ []) 1 refl,
-      length-on-wire (l .announced) (f .announced) 6 (long .station-long),
+      length-on-wire (l .za1) (f .za1) numberWidth (long .za1-long),
+      length-on-wire (l .za2) (f .za2) numberWidth (long .za2-long),
+      length-on-wire (l .tab) (f .tab ∷ []) tabWidth refl,
+      length-on-wire (l .announced) (f .announced) addressWidth (long .announced-long),
     )
     (omega arith)
 
 -- head, fields, DATA in a lent part, and the CRC
-steps-made : (b head fixed d : List ℕ) (at : ℕ) → length head ≡ 9 → 9 + length fixed ≡ at → at + length d + 2 ≤ length b
-    → closed (putMid at (at + length d - at) (spliced (spliced b 0 head) 9 fixed) d) (at + length d) ≡ fronted ((head ++ (fixed ++ d)) ++ keyOctets (head ++ (fixed ++ d))) b
+steps-made : (b head fixed d : List ℕ) (at : ℕ) → length head ≡ fieldsAt → fieldsAt + length fixed ≡ at → at + length d + crcWidth ≤ length b
+    → closed (putMid at (at + length d - at) (spliced (spliced b 0 head) fieldsAt fixed) d) (at + length d) ≡ fronted ((head ++ (fixed ++ d)) ++ checkKeyOctets (head ++ (fixed ++ d))) b
 steps-made b head fixed d at nine e h =
     let two : length (head ++ fixed) ≡ at = length-append head fixed ∙ omega arith in
     let three : length (head ++ fixed ++ d) ≡ at + length d = length-append (head ++ fixed) d ∙ ap (λ (k : ℕ). k + length d) two in
     rw (
       spliced-front b head (omega arith),
-      spliced-next head b fixed 9 nine (omega arith),
+      spliced-next head b fixed fieldsAt nine (omega arith),
       lent-spliced (fronted (head ++ fixed) b) d at (rw (length-fronted (head ++ fixed) b (omega arith)) (omega arith)),
       spliced-next (head ++ fixed) b d at two (omega arith),
       closed-front (head ++ fixed ++ d) b (at + length d) three h,
@@ -101,10 +102,10 @@ steps-made b head fixed d at nine e h =
     )
 
 module _ (c : Command) (f : Fields) (d : List ℕ) (long : Shaped f) where
-  nine : length (headOf (wholeLength (layoutOf c) (length d)) (f .ads) (f .adp) (codeOf c)) ≡ 9
+  nine : length (headOf (wholeLength (layoutOf c) (length d)) (f .ads) (f .adp) (codeOf c)) ≡ fieldsAt
   nine = length-head (wholeLength (layoutOf c) (length d)) (f .ads) (f .adp) (codeOf c) (long .ads-long)
 
-  pub length-body : length (bodyOf c f d) ≡ placesOf (layoutOf c) .content + length d
+  pub length-body : length (bodyOf c f d) ≡ placesOf (layoutOf c) .content .0 + length d
   unfolding bodyOf
   length-body = rw (length-append, length-append, nine) (omega (arith, length-fixed (layoutOf c) f long))
 
@@ -113,10 +114,10 @@ module _ (c : Command) (f : Fields) (d : List ℕ) (long : Shaped f) where
   length-octets = rw (length-append, length-body)
 
   pub frame-made : (b : List ℕ) → wholeLength (layoutOf c) (length d) ≤ length b
-      → (let at = placesOf (layoutOf c) .content in
+      → (let at = placesOf (layoutOf c) .content .0 in
       let head = headOf (wholeLength (layoutOf c) (length d)) (f .ads) (f .adp) (codeOf c) in
-      closed (putMid at (at + length d - at) (spliced (spliced b 0 head) 9 (fixedOf (layoutOf c) f)) d) (at + length d) ≡ fronted (frameOctets c f d) b)
+      closed (putMid at (at + length d - at) (spliced (spliced b 0 head) fieldsAt (fixedOf (layoutOf c) f)) d) (at + length d) ≡ fronted (frameOctets c f d) b)
   unfolding frameOctets bodyOf
   frame-made b h =
       steps-made b (headOf (wholeLength (layoutOf c) (length d)) (f .ads) (f .adp) (codeOf c)) (fixedOf (layoutOf c) f) d
-      (placesOf (layoutOf c) .content) nine (length-fixed (layoutOf c) f long) h
+      (placesOf (layoutOf c) .content .0) nine (length-fixed (layoutOf c) f long) h

@@ -3,6 +3,8 @@ use Prim.Native.Nat.{ℕ}
 use mathlib.Core.List.{List, [], _∷_}
 use mathlib.Core.Bool.{cond}
 use lib.Dec.{eqb}
+use Rattle.numbers.specs.Table.{unknownCommand}
+use Rattle.numbers.specs.Answer.{Answer, given, refused}
 use Rattle.frame.specs.declared.codes.Command.{Command}
 use Rattle.frame.specs.declared.codes.Command.the-variants.{Enq, Dat, Rec, Ech, Aut, Eos, Aso, Rso, Ib, Drj, Arj, Trf, Trb, Tra, Pre, Sel}
 use Rattle.frame.specs.declared.codes.Lookup.{Lookup}
@@ -29,10 +31,15 @@ codeOf Sel = 0x11
 abbrev pub commands : List Command
 commands = Enq ∷ Dat ∷ Rec ∷ Ech ∷ Aut ∷ Eos ∷ Aso ∷ Rso ∷ Ib ∷ Drj ∷ Arj ∷ Trf ∷ Trb ∷ Tra ∷ Pre ∷ Sel ∷ []
 
--- the first of these commands that has this code
-unfoldable pub among : List Command → ℕ → Lookup
-among [] code = Missing
-among (c ∷ cs) code = cond (eqb (codeOf c) code) (Found c) (among cs code)
+abbrev pub answerOfLookup : Lookup → Answer Command
+answerOfLookup (Found c) = given c
+answerOfLookup Missing = refused unknownCommand
 
-unfoldable pub commandOf : ℕ → Lookup
+-- the first of these commands that has this code
+unfoldable pub among : List Command → ℕ → Answer Command
+among [] code = refused unknownCommand
+among (c ∷ cs) code = cond (eqb (codeOf c) code) (given c) (among cs code)
+
+-- 01, Receiving: "known command (4)"
+unfoldable pub commandOf : ℕ → Answer Command
 commandOf code = among commands code

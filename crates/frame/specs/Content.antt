@@ -12,18 +12,19 @@ use Rattle.frame.specs.declared.layout.Presence.{Presence}
 use Rattle.frame.specs.declared.layout.Presence.the-variants.{Absent, Zero, Carried}
 use Rattle.frame.specs.declared.layout.Layout.{Layout}
 use Rattle.frame.specs.declared.content.Fields.{Fields}
+use Rattle.frame.specs.Sizes.{adsAt, adpAt, fieldsAt, crcWidth, addressWidth, numberWidth, tabWidth}
 use Rattle.frame.specs.Layout.{layoutOf, placesOf}
 
 -- what the type of a value of `Fields` says: how long its arrays are, and that their elements are octets
 pub record Shaped (f : Fields) : Type 0 where
-  pub ads-long : length (f .ads) ≡ 6
-  pub za1-long : length (f .za1) ≡ 8
-  pub za2-long : length (f .za2) ≡ 8
-  pub station-long : length (f .announced) ≡ 6
+  pub ads-long : length (f .ads) ≡ addressWidth
+  pub za1-long : length (f .za1) ≡ numberWidth
+  pub za2-long : length (f .za2) ≡ numberWidth
+  pub announced-long : length (f .announced) ≡ addressWidth
   pub ads-octets : (i : ℕ) → getD (f .ads) i 0 < 256
   pub za1-octets : (i : ℕ) → getD (f .za1) i 0 < 256
   pub za2-octets : (i : ℕ) → getD (f .za2) i 0 < 256
-  pub station-octets : (i : ℕ) → getD (f .announced) i 0 < 256
+  pub announced-octets : (i : ℕ) → getD (f .announced) i 0 < 256
   pub adp-octet : f .adp < 256
   pub tab-octet : f .tab < 256
 
@@ -56,17 +57,17 @@ fieldsOf c s =
     let l = layoutOf c in
     let p = placesOf l in
     record {
-      ads = valueAt Carried 6 s 1;
-      adp = getD s 7 0;
-      za1 = valueAt (l .za1) 8 s 9;
-      za2 = valueAt (l .za2) 8 s (p .za2);
-      tab = octetAt (l .tab) s (p .tab);
-      announced = valueAt (l .announced) 6 s (p .announced);
+      ads = valueAt Carried addressWidth s adsAt;
+      adp = getD s adpAt 0;
+      za1 = valueAt (l .za1) numberWidth s fieldsAt;
+      za2 = valueAt (l .za2) numberWidth s (p .za2 .0);
+      tab = octetAt (l .tab) s (p .tab .0);
+      announced = valueAt (l .announced) addressWidth s (p .announced .0);
     }
 
 -- its DATA: what stands between the other fields and the CRC
 unfoldable pub dataOf : Command → List ℕ → List ℕ
-dataOf c s = partOf s (placesOf (layoutOf c) .content) (length s - 2)
+dataOf c s = partOf s (placesOf (layoutOf c) .content .0) (length s - crcWidth)
 
 -- what a field with the value v carries
 unfoldable pub kept : Presence → List ℕ → List ℕ
@@ -102,4 +103,4 @@ inZero Carried n at i = false
 unfoldable pub inZeroField : Layout → ℕ → Bool
 inZeroField l i =
     let p = placesOf l in
-    inZero (l .za1) 8 9 i || (inZero (l .za2) 8 (p .za2) i || (inZero (l .tab) 1 (p .tab) i || inZero (l .announced) 6 (p .announced) i))
+    inZero (l .za1) numberWidth fieldsAt i || (inZero (l .za2) numberWidth (p .za2 .0) i || (inZero (l .tab) tabWidth (p .tab .0) i || inZero (l .announced) addressWidth (p .announced .0) i))

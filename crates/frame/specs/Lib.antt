@@ -1,3 +1,4 @@
+pub mod Sizes
 pub mod Codes
 pub mod Addresses
 pub mod Layout

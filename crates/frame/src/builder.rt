@@ -5,11 +5,12 @@ ghost use Prim.Native.Nat.{_+_, _≤_, _<_};
 ghost use lib.ListN.{length};
 ghost use lib.Dec.{leb};
 ghost use Rattle.octets.specs.Splice.{spliced, fronted};
-ghost use Rattle.frame.specs.declared.builder.Room.the-variants.{Enough, Short};
+ghost use Rattle.frame.specs.declared.builder.Capacity.the-variants.{Enough, Short};
 ghost use Rattle.frame.specs.declared.builder.Amount.the-variants.{Within, Beyond};
+ghost use Rattle.frame.specs.Sizes.{longestFrame, fieldsAt, crcWidth, numberWidth, mostBeforeData};
 ghost use Rattle.frame.specs.Layout.{layoutOf, within};
 ghost use Rattle.frame.specs.Content.{onWire};
-ghost use Rattle.frame.specs.Building.{refusalNumber, headOf, fixedOf, closed, frameOctets, built};
+ghost use Rattle.frame.specs.Building.{refusalNumber, answerOfBuilt, headOf, fixedOf, closed, frameOctets, built};
 use crate::codes::Command;
 use crate::codes::code;
 use crate::content::Fields;
@@ -18,10 +19,17 @@ use crate::layout::Presence;
 use crate::layout::layout_of;
 use crate::layout::places_of;
 use crate::order::turn;
+use crate::sizes::ADDRESS_WIDTH;
+use crate::sizes::ADS_AT;
+use crate::sizes::CRC_WIDTH;
+use crate::sizes::FIELDS_AT;
+use crate::sizes::LONGEST_FRAME;
+use crate::sizes::NUMBER_WIDTH;
 use numbers::Octets;
+use numbers::table;
 
 // The check for 17: whether a buffer holds the longest frame.
-pub enum Room {
+pub enum Capacity {
     Enough,
     Short,
 }
@@ -48,18 +56,18 @@ pub fn refusal_number(refusal: Refusal) -> u8
     ensures { λ r. ⌜ r ≡ refusalNumber refusal ⌝ }
 {
     match refusal {
-        Refusal::Buffer => 17,
-        Refusal::Data => 7,
+        Refusal::Buffer => table::WRONG_LENGTH,
+        Refusal::Data => table::TOO_LONG,
     }
 }
 
-fn check_room(buffer: &[u8]) -> Room
-    ensures { λ r. ⌜ r ≡ cond (leb 128 (length (now (buffer .entry)))) Enough Short ⌝ }
+fn check_capacity(buffer: &[u8]) -> Capacity
+    ensures { λ r. ⌜ r ≡ cond (leb longestFrame (length (now (buffer .entry)))) Enough Short ⌝ }
 {
-    if buffer.len() < 128 {
-        Room::Short
+    if buffer.len() < LONGEST_FRAME {
+        Capacity::Short
     } else {
-        Room::Enough
+        Capacity::Enough
     }
 }
 
@@ -78,23 +86,23 @@ fn check_amount(layout: Layout, data: &[u8]) -> Amount
 }
 
 // N, ADS, ADP and COM.
-fn put_head(buffer: &mut [u8], n: u8, ads: [u8; 6], adp: u8, command: u8)
+fn put_head(buffer: &mut [u8], n: u8, ads: [u8; ADDRESS_WIDTH], adp: u8, command: u8)
     ensures { λ _. ⌜ now (buffer .exit) ≡ spliced (now (buffer .entry)) 0 (headOf n ads adp command) ⌝ }
 {
     let mut head = [n, 0, 0, 0, 0, 0, 0, adp, command];
-    turn(&mut head, 1, &ads);
+    turn(&mut head, ADS_AT, &ads);
     octets::put(buffer, 0, &head);
 }
 
 // A field that the command may have, and the offset after it.
 fn put_field(buffer: &mut [u8], at: usize, presence: Presence, field: &[u8]) -> usize
-    requires { ⌜ (at < 128) × (length (now field) ≤ 8) ⌝ }
+    requires { ⌜ (at < longestFrame) × (length (now field) ≤ numberWidth) ⌝ }
     ensures { λ r. ⌜ (r ≡ at + length (onWire presence (now (field .entry)))) × (now (buffer .exit) ≡ spliced (now (buffer .entry)) at (onWire presence (now (field .entry)))) ⌝ }
 {
     match presence {
         Presence::Absent => at,
         Presence::Zero => {
-            let zeros = [0u8; 8];
+            let zeros = [0u8; NUMBER_WIDTH];
             let width = field.len();
             octets::put(buffer, at, &zeros[..width]);
             at + width
@@ -108,8 +116,8 @@ fn put_field(buffer: &mut [u8], at: usize, presence: Presence, field: &[u8]) -> 
 
 // ZA1, ZA2, TAB and RSO's second ADS.
 fn put_fixed(buffer: &mut [u8], layout: Layout, fields: Fields)
-    requires { ⌜ 32 ≤ length (now buffer) ⌝ }
-    ensures { λ _. ⌜ now (buffer .exit) ≡ spliced (now (buffer .entry)) 9 (fixedOf layout fields) ⌝ }
+    requires { ⌜ mostBeforeData ≤ length (now buffer) ⌝ }
+    ensures { λ _. ⌜ now (buffer .exit) ≡ spliced (now (buffer .entry)) fieldsAt (fixedOf layout fields) ⌝ }
 {
     let za1 = fields.za1;
     let za2 = fields.za2;
@@ -119,7 +127,7 @@ fn put_fixed(buffer: &mut [u8], layout: Layout, fields: Fields)
     let has_za2 = layout.za2;
     let has_tab = layout.tab;
     let has_announced = layout.announced;
-    let za2_at = put_field(buffer, 9, has_za1, &za1);
+    let za2_at = put_field(buffer, FIELDS_AT, has_za1, &za1);
     let tab_at = put_field(buffer, za2_at, has_za2, &za2);
     let announced_at = put_field(buffer, tab_at, has_tab, &tab);
     put_field(buffer, announced_at, has_announced, &announced);
@@ -135,27 +143,28 @@ fn fill(part: &mut [u8], data: &[u8])
 
 // The CRC after the octets before end, and the offset after it.
 fn close(buffer: &mut [u8], end: usize) -> usize
-    requires { ⌜ end + 2 ≤ length (now buffer) ⌝ }
-    ensures { λ r. ⌜ (r ≡ end + 2) × (now (buffer .exit) ≡ closed (now (buffer .entry)) end) ⌝ }
+    requires { ⌜ end + crcWidth ≤ length (now buffer) ⌝ }
+    ensures { λ r. ⌜ (r ≡ end + crcWidth) × (now (buffer .exit) ≡ closed (now (buffer .entry)) end) ⌝ }
 {
-    let key = crc::key(&buffer[..end]);
-    let low = (key % 256) as u8;
-    let high = (key / 256) as u8;
+    let check_key = crc::check_key(&buffer[..end]);
+    let low = (check_key % 256) as u8;
+    let high = (check_key / 256) as u8;
     octets::put(buffer, end, &[low, high]);
-    end + 2
+    end + CRC_WIDTH
 }
 
 // The frame over the front of a buffer that holds it.
 fn write(buffer: &mut [u8], command: Command, fields: Fields, data: &[u8]) -> usize
-    requires { ⌜ (128 ≤ length (now buffer)) × (length (now «data») ≤ layoutOf command .most .0) ⌝ }
+    requires { ⌜ (longestFrame ≤ length (now buffer)) × (length (now «data») ≤ layoutOf command .most .0) ⌝ }
     ensures { λ r. ⌜ (r ≡ length (frameOctets command fields (now («data» .entry)))) × (now (buffer .exit) ≡ fronted (frameOctets command fields (now («data» .entry))) (now (buffer .entry))) ⌝ }
 {
     let layout = layout_of(command);
     let places = places_of(layout);
-    let at = places.content;
+    let content = places.content;
+    let at = content.0;
     let end = at + data.len();
     let ads = fields.ads;
-    let n = (end + 2) as u8;
+    let n = (end + CRC_WIDTH) as u8;
     put_head(buffer, n, ads, fields.adp, code(command));
     put_fixed(buffer, layout, fields);
     fill(&mut buffer[at..end], data);
@@ -165,9 +174,9 @@ fn write(buffer: &mut [u8], command: Command, fields: Fields, data: &[u8]) -> us
 // A frame of this command in the front of the buffer: 17 for a buffer under 128 octets, then 7 for DATA that the command cannot have.
 // Octets past the frame are kept, and a refusal leaves the whole buffer.
 pub fn build(buffer: &mut [u8], command: Command, fields: Fields, data: &[u8]) -> Built
-    ensures { λ r. ⌜ (r ≡ built (now (buffer .entry)) command fields (now («data» .entry)) .answer) × (now (buffer .exit) ≡ built (now (buffer .entry)) command fields (now («data» .entry)) .buffer) ⌝ }
+    ensures { λ r. ⌜ (answerOfBuilt r ≡ built (now (buffer .entry)) command fields (now («data» .entry)) .answer) × (now (buffer .exit) ≡ built (now (buffer .entry)) command fields (now («data» .entry)) .buffer) ⌝ }
 {
-    let Room::Enough = check_room(buffer) else {
+    let Capacity::Enough = check_capacity(buffer) else {
         return Built::Refused(Refusal::Buffer);
     };
     let layout = layout_of(command);

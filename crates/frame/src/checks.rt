@@ -5,17 +5,23 @@ ghost use lib.ListN.{length, getD};
 ghost use lib.Dec.{eqb};
 ghost use Rattle.crc.specs.AnnexE.{divides};
 ghost use Rattle.frame.specs.declared.checks.Extent.the-variants.{Exact, Other};
-ghost use Rattle.frame.specs.declared.checks.Key.the-variants.{Passes, Fails};
+ghost use Rattle.frame.specs.declared.checks.CheckKey.the-variants.{Passes, Fails};
 ghost use Rattle.frame.specs.declared.checks.Span.the-variants.{Possible, Impossible};
-ghost use Rattle.frame.specs.Codes.{commandOf};
+ghost use Rattle.frame.specs.Sizes.{comAt};
+ghost use Rattle.frame.specs.Codes.{answerOfLookup, commandOf};
 ghost use Rattle.frame.specs.Layout.{layoutOf, canHave};
-ghost use Rattle.frame.specs.Checks.{faultNumber, statedBy, judged, inspected};
+ghost use Rattle.frame.specs.Checks.{faultNumber, answerOfStated, answerOfVerdict, statedBy, judged, inspected};
 use crate::codes::Command;
 use crate::codes::Lookup;
 use crate::codes::command_of;
 use crate::layout::layout_of;
 use crate::layout::places_of;
+use crate::sizes::COM_AT;
+use crate::sizes::CRC_WIDTH;
+use crate::sizes::LONGEST_FRAME;
+use crate::sizes::SHORTEST_FRAME;
 use numbers::Octets;
+use numbers::table;
 
 // The check for 1: the whole length that N states.
 pub enum Stated {
@@ -30,7 +36,7 @@ pub enum Extent {
 }
 
 // The check for 2.
-pub enum Key {
+pub enum CheckKey {
     Passes,
     Fails,
 }
@@ -59,24 +65,25 @@ pub fn fault_number(fault: Fault) -> u8
     ensures { λ r. ⌜ r ≡ faultNumber fault ⌝ }
 {
     match fault {
-        Fault::OutOfRange => 1,
-        Fault::Crc => 2,
-        Fault::Cut => 3,
-        Fault::Unknown => 4,
-        Fault::Length => 5,
+        Fault::OutOfRange => table::LENGTH_OUT_OF_RANGE,
+        Fault::Crc => table::WRONG_CHECK_KEY,
+        Fault::Cut => table::CUT_FRAME,
+        Fault::Unknown => table::UNKNOWN_COMMAND,
+        Fault::Length => table::IMPOSSIBLE_LENGTH,
     }
 }
 
 pub fn stated_by(n: u8) -> Stated
-    ensures { λ r. ⌜ r ≡ statedBy n ⌝ }
+    ensures { λ r. ⌜ answerOfStated r ≡ statedBy n ⌝ }
 {
-    if n < 11 {
+    let whole = n as usize;
+    if whole < SHORTEST_FRAME {
         return Stated::Outside;
     }
-    if 128 < n {
+    if LONGEST_FRAME < whole {
         return Stated::Outside;
     }
-    Stated::Whole(Octets(n as usize))
+    Stated::Whole(Octets(whole))
 }
 
 fn check_extent(frame: &[u8], whole: Octets) -> Extent
@@ -89,30 +96,31 @@ fn check_extent(frame: &[u8], whole: Octets) -> Extent
     }
 }
 
-fn check_key(frame: &[u8]) -> Key
+fn check_crc(frame: &[u8]) -> CheckKey
     ensures { λ r. ⌜ r ≡ cond (divides (now (frame .entry))) Passes Fails ⌝ }
 {
     if crc::divisible(frame) {
-        Key::Passes
+        CheckKey::Passes
     } else {
-        Key::Fails
+        CheckKey::Fails
     }
 }
 
 fn check_command(frame: &[u8]) -> Lookup
-    ensures { λ r. ⌜ r ≡ commandOf (getD (now (frame .entry)) 8 0) ⌝ }
+    ensures { λ r. ⌜ answerOfLookup r ≡ commandOf (getD (now (frame .entry)) comAt 0) ⌝ }
 {
-    command_of(octets::octet(frame, 8))
+    command_of(octets::octet(frame, COM_AT))
 }
 
 fn check_length(command: Command, frame: &[u8]) -> Span
     ensures { λ r. ⌜ r ≡ cond (canHave (layoutOf command) (length (now (frame .entry)))) Possible Impossible ⌝ }
 {
     let layout = layout_of(command);
-    let at = places_of(layout);
+    let places = places_of(layout);
+    let content = places.content;
     let least = layout.least;
     let most = layout.most;
-    let fixed = at.content + 2;
+    let fixed = content.0 + CRC_WIDTH;
     if frame.len() < fixed + least.0 {
         return Span::Impossible;
     }
@@ -124,9 +132,9 @@ fn check_length(command: Command, frame: &[u8]) -> Span
 
 // The checks of a frame whose whole length has come: CRC (2), known command (4), length that this command can have (5).
 pub fn judge(frame: &[u8]) -> Verdict
-    ensures { λ r. ⌜ r ≡ judged (now (frame .entry)) ⌝ }
+    ensures { λ r. ⌜ answerOfVerdict r ≡ judged (now (frame .entry)) ⌝ }
 {
-    let Key::Passes = check_key(frame) else {
+    let CheckKey::Passes = check_crc(frame) else {
         return Verdict::Refused(Fault::Crc);
     };
     let Lookup::Found(command) = check_command(frame) else {
@@ -140,7 +148,7 @@ pub fn judge(frame: &[u8]) -> Verdict
 
 // All checks of a whole frame in a slice: 1, then 3, then those of `judge`.
 pub fn inspect(frame: &[u8]) -> Verdict
-    ensures { λ r. ⌜ r ≡ inspected (now (frame .entry)) ⌝ }
+    ensures { λ r. ⌜ answerOfVerdict r ≡ inspected (now (frame .entry)) ⌝ }
 {
     if frame.len() == 0 {
         return Verdict::Refused(Fault::Cut);

@@ -1,6 +1,6 @@
 // The command codes of 004 Annex D, Table D.1.
 ghost use mathlib.Core.Path.{_≡_};
-ghost use Rattle.frame.specs.Codes.{codeOf, commandOf};
+ghost use Rattle.frame.specs.Codes.{codeOf, answerOfLookup, commandOf};
 
 pub enum Command {
     Enq,
@@ -51,7 +51,7 @@ pub fn code(command: Command) -> u8
 }
 
 pub fn command_of(code: u8) -> Lookup
-    ensures { λ r. ⌜ r ≡ commandOf code ⌝ }
+    ensures { λ r. ⌜ answerOfLookup r ≡ commandOf code ⌝ }
 {
     match code {
         0x01 => Lookup::Found(Command::Enq),

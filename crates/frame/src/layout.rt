@@ -3,6 +3,13 @@ ghost use mathlib.Core.Path.{_≡_};
 ghost use Rattle.frame.specs.declared.layout.Presence.the-variants.{Absent, Zero, Carried};
 ghost use Rattle.frame.specs.Layout.{row, layoutOf, width, placesOf};
 use crate::codes::Command;
+use crate::sizes::ADDRESS_WIDTH;
+use crate::sizes::FIELDS_AT;
+use crate::sizes::MOST_PROGRAMMED;
+use crate::sizes::MOST_TABS;
+use crate::sizes::MOST_TRANSFERRED;
+use crate::sizes::NUMBER_WIDTH;
+use crate::sizes::TAB_WIDTH;
 use numbers::Octets;
 
 // Whether a command has a field, and whether the field carries a value or is always zero.
@@ -22,12 +29,12 @@ pub struct Layout {
     pub most: Octets,
 }
 
-// The offsets of the fields after ZA1, which stands at 9; content is DATA's.
+// The offsets of the fields after ZA1, which is the first; content is DATA's.
 pub struct Places {
-    pub za2: usize,
-    pub tab: usize,
-    pub announced: usize,
-    pub content: usize,
+    pub za2: Octets,
+    pub tab: Octets,
+    pub announced: Octets,
+    pub content: Octets,
 }
 
 // No field but DATA.
@@ -77,18 +84,28 @@ pub(crate) fn layout_of(command: Command) -> Layout
 {
     match command {
         Command::Enq => tabbed(Presence::Absent, 0),
-        Command::Dat => tabbed(Presence::Absent, 116),
-        Command::Rec => numbered(Presence::Carried, Presence::Zero, Presence::Carried, 100),
-        Command::Ech => numbered(Presence::Carried, Presence::Carried, Presence::Carried, 100),
+        Command::Dat => tabbed(Presence::Absent, MOST_TRANSFERRED),
+        Command::Rec => numbered(
+            Presence::Carried,
+            Presence::Zero,
+            Presence::Carried,
+            MOST_PROGRAMMED,
+        ),
+        Command::Ech => numbered(
+            Presence::Carried,
+            Presence::Carried,
+            Presence::Carried,
+            MOST_PROGRAMMED,
+        ),
         Command::Aut => numbered(Presence::Zero, Presence::Carried, Presence::Absent, 0),
         Command::Eos => numbered(Presence::Zero, Presence::Zero, Presence::Absent, 0),
-        Command::Aso => bare(1, 40),
+        Command::Aso => bare(1, MOST_TABS),
         Command::Rso => tabbed(Presence::Carried, 0),
         Command::Ib => bare(0, 0),
         Command::Drj => bare(0, 0),
         Command::Arj => bare(0, 0),
-        Command::Trf => tabbed(Presence::Absent, 116),
-        Command::Trb => tabbed(Presence::Absent, 116),
+        Command::Trf => tabbed(Presence::Absent, MOST_TRANSFERRED),
+        Command::Trb => tabbed(Presence::Absent, MOST_TRANSFERRED),
         Command::Tra => bare(0, 0),
         Command::Pre => bare(0, 0),
         Command::Sel => bare(0, 0),
@@ -113,14 +130,14 @@ pub(crate) fn places_of(layout: Layout) -> Places
     let za2 = layout.za2;
     let tab = layout.tab;
     let announced = layout.announced;
-    let za2_at = 9 + width_of(za1, 8);
-    let tab_at = za2_at + width_of(za2, 8);
-    let announced_at = tab_at + width_of(tab, 1);
-    let content_at = announced_at + width_of(announced, 6);
+    let za2_at = FIELDS_AT + width_of(za1, NUMBER_WIDTH);
+    let tab_at = za2_at + width_of(za2, NUMBER_WIDTH);
+    let announced_at = tab_at + width_of(tab, TAB_WIDTH);
+    let content_at = announced_at + width_of(announced, ADDRESS_WIDTH);
     Places {
-        za2: za2_at,
-        tab: tab_at,
-        announced: announced_at,
-        content: content_at,
+        za2: Octets(za2_at),
+        tab: Octets(tab_at),
+        announced: Octets(announced_at),
+        content: Octets(content_at),
     }
 }

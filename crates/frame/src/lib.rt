@@ -5,6 +5,7 @@ pub mod codes;
 pub mod content;
 pub mod layout;
 mod order;
+pub mod sizes;
 
 pub use builder::Built;
 pub use builder::Refusal;

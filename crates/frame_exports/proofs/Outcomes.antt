@@ -6,6 +6,7 @@ use borrow.Author.Tests.{le-leb, lt-leb}
 use lib.ListN.{length}
 use Rattle.octets.specs.Splice.{spliced}
 use Rattle.frame.specs.declared.codes.Command.{Command}
+use Rattle.frame.specs.declared.codes.Lookup.{Lookup}
 use Rattle.frame.specs.declared.codes.Lookup.the-variants.{Found, Missing}
 use Rattle.frame.specs.declared.builder.Built.{Built}
 use Rattle.frame.specs.declared.builder.Built.the-variants as built
@@ -15,43 +16,46 @@ use Rattle.frame.specs.declared.checks.Verdict.{Verdict}
 use Rattle.frame.specs.declared.checks.Verdict.the-variants as verdict
 use Rattle.frame.specs.declared.content.Fields.{Fields}
 use Rattle.frame.specs.declared.content.Reading.{Reading}
-use Rattle.frame.specs.Codes.{codeOf, commandOf}
+use Rattle.frame.specs.Sizes.{longestFrame}
+use Rattle.frame.specs.Codes.{codeOf, answerOfLookup, commandOf}
 use Rattle.frame.specs.Content.{fieldsOf, dataOf}
-use Rattle.frame.specs.Checks.{faultNumber, inspected, fieldsIn, readOf}
-use Rattle.frame.specs.Building.{built, refusalNumber}
+use Rattle.frame.specs.Checks.{faultNumber, answerOfVerdict, inspected, fieldsIn, FrameRead, answerOfReading, readOf}
+use Rattle.frame.specs.Building.{refusalNumber, answerOfBuilt, built}
+use Rattle.numbers.specs.Table.{unknownCommand, wrongLength}
 use Rattle.numbers.specs.declared.Octets.{Octets}
-use Rattle.frame_exports.specs.Exported.{Shown, unwritten, writtenAs, buildFor, buildOutcome, shownAs, readOutcome}
+use Rattle.frame_exports.specs.Exported.{Shown, unwritten, writtenAs, buildFor, buildOutcome, unshown, shownAs, readOutcome}
 
 module _ (b : List ℕ) (code : ℕ) (f : Fields) (d : List ℕ) (before : ℕ) where
-  pub build-short : length b < 128 → unwritten 17 b before ≡ buildOutcome b code f d before
+  pub build-short : length b < longestFrame → unwritten wrongLength b before ≡ buildOutcome b code f d before
   unfolding buildOutcome
-  build-short h = rw (lt-leb 128 (length b) h)
+  build-short h = rw (lt-leb longestFrame (length b) h)
 
-  pub build-unknown : 128 ≤ length b → commandOf code ≡ Missing → unwritten 4 b before ≡ buildOutcome b code f d before
-  unfolding buildOutcome buildFor
-  build-unknown h e = rw (le-leb 128 (length b) h, e)
+  module _ (found : Lookup) (named : answerOfLookup found ≡ commandOf code) where
+    pub build-unknown : longestFrame ≤ length b → found ≡ Missing → unwritten unknownCommand b before ≡ buildOutcome b code f d before
+    unfolding buildOutcome buildFor
+    build-unknown h e = rw (le-leb longestFrame (length b) h, ← named, e)
 
-  module _ (c : Command) (answer : Built) (after : List ℕ) (room : 128 ≤ length b) (known : commandOf code ≡ Found c) (answered : answer ≡ built b c f d .answer) (left : after ≡ built b c f d .buffer) where
-    pub build-framed : (octets : Octets) → answer ≡ built.Frame octets → record { number = 0; buffer = after; length = octets .0 } ≡ buildOutcome b code f d before
-    unfolding buildOutcome buildFor writtenAs
-    build-framed octets e = rw (le-leb 128 (length b) room, known, ← answered, ← left, e)
+    module _ (c : Command) (answer : Built) (after : List ℕ) (capacity : longestFrame ≤ length b) (known : found ≡ Found c) (answered : answerOfBuilt answer ≡ built b c f d .answer) (left : after ≡ built b c f d .buffer) where
+      pub build-framed : (octets : Octets) → answer ≡ built.Frame octets → record { number = 0; buffer = after; length = octets .0 } ≡ buildOutcome b code f d before
+      unfolding buildOutcome buildFor writtenAs
+      build-framed octets e = rw (le-leb longestFrame (length b) capacity, ← named, known, ← answered, ← left, e)
 
-    pub build-refused : (refusal : Refusal) (number : ℕ) → answer ≡ built.Refused refusal → number ≡ refusalNumber refusal → unwritten number after before ≡ buildOutcome b code f d before
-    unfolding buildOutcome buildFor writtenAs
-    build-refused refusal number e n = rw (le-leb 128 (length b) room, known, ← answered, ← left, e, n)
+      pub build-refused : (refusal : Refusal) (number : ℕ) → answer ≡ built.Refused refusal → number ≡ refusalNumber refusal → unwritten number after before ≡ buildOutcome b code f d before
+      unfolding buildOutcome buildFor writtenAs
+      build-refused refusal number e n = rw (le-leb longestFrame (length b) capacity, ← named, known, ← answered, ← left, e, n)
 
-module _ (s : List ℕ) (reading : Reading) (read : reading ≡ readOf s) (before : Shown) where
-  verdict-read : (v : Verdict) → reading .verdict ≡ v → inspected s ≡ v
+module _ (s : List ℕ) (reading : Reading) (read : answerOfReading reading ≡ readOf s) (before : Shown) where
+  verdict-read : (v : Verdict) → reading .verdict ≡ v → inspected s ≡ answerOfVerdict v
   unfolding readOf
-  verdict-read v e = sym (ap (λ (r : Reading). r .verdict) read) ∙ e
+  verdict-read v e = sym (ap (λ (r : FrameRead). r .verdict) read) ∙ ap answerOfVerdict e
 
-  pub read-bad : (fault : Fault) (number : ℕ) → reading .verdict ≡ verdict.Refused fault → number ≡ faultNumber fault → record { number = number; code = before .code; fields = before .fields; content = before .content; length = before .length } ≡ readOutcome s before
+  pub read-bad : (fault : Fault) (number : ℕ) → reading .verdict ≡ verdict.Refused fault → number ≡ faultNumber fault → unshown number before ≡ readOutcome s before
   unfolding readOutcome shownAs
   read-bad fault number e n = rw (verdict-read _ e, n)
 
   pub fields-good : (c : Command) → reading .verdict ≡ verdict.Good c → reading .fields ≡ fieldsOf c s
   unfolding readOf fieldsIn
-  fields-good c e = ap (λ (r : Reading). r .fields) read ∙ rw (verdict-read _ e)
+  fields-good c e = ap (λ (r : FrameRead). r .fields) read ∙ rw (verdict-read _ e)
 
   pub read-good : (c : Command) (code : ℕ) (content part : List ℕ) → reading .verdict ≡ verdict.Good c → code ≡ codeOf c → part ≡ dataOf c s → content ≡ spliced (before .content) 0 part → record { number = 0; code = code; fields = reading .fields; content = content; length = length part } ≡ readOutcome s before
   unfolding readOutcome shownAs

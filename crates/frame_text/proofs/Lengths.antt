@@ -17,13 +17,14 @@ use Rattle.text.proofs.Hexadecimal.{length-hex}
 use Rattle.frame.specs.declared.codes.Command.{Command}
 use Rattle.frame.specs.declared.codes.Command.the-variants.{Enq, Dat, Rec, Ech, Aut, Eos, Aso, Rso, Ib, Drj, Arj, Trf, Trb, Tra, Pre, Sel}
 use Rattle.frame.specs.declared.content.Fields.{Fields}
+use Rattle.frame.specs.Sizes.{longestFrame, crcWidth}
 use Rattle.frame.specs.Layout.{layoutOf, placesOf}
 use Rattle.frame.specs.Content.{Shaped, dataOf}
 use Rattle.frame_text.specs.declared.items.Item.{Item}
 use Rattle.frame_text.specs.declared.items.Item.the-variants.{Nothing, Na1, Na1k, Na2, Na2k, Tab, Station, Data, Tabi}
 use Rattle.frame_text.specs.declared.items.Items.{Items}
 use Rattle.frame_text.specs.Names.{nameOf}
-use Rattle.frame_text.specs.Words.{dataWords, itemWords, itemsOf, itemsWords, headWords, widthOf, widths}
+use Rattle.frame_text.specs.Words.{mostData, mostHeadWords, dataWords, itemWords, itemsOf, itemsWords, headWords, widthOf, widths}
 
 -- a text of no octets is written anywhere
 pub nothing-written : (m : List ℕ) (at : ℕ) → Written m at [] at m
@@ -50,12 +51,12 @@ joined-four m at p q s t h one two three four =
     joined m at (p ++ q ++ s) t _ _ _ _ (rw (length-append, length-append) (omega arith))
     (joined m at (p ++ q) s _ _ _ _ (rw length-append (omega arith)) (joined m at p q _ _ _ _ (omega arith) one two) three) four
 
-data-most : (d : List ℕ) → length d ≤ 117 → length (dataWords d) ≤ 240
+data-most : (d : List ℕ) → length d ≤ mostData → length (dataWords d) ≤ 240
 unfolding dataWords
 data-most [] h = lit≤ tt
 data-most (o ∷ d) h = omega (arith, length-hex (o ∷ d))
 
-pub item-most : (i : Item) (f : Fields) (d : List ℕ) → Shaped f → length d ≤ 117 → length (itemWords i f d) ≤ widthOf i
+pub item-most : (i : Item) (f : Fields) (d : List ℕ) → Shaped f → length d ≤ mostData → length (itemWords i f d) ≤ widthOf i
 unfolding itemWords
 item-most Nothing f d s h = lit≤ tt
 item-most Na1 f d s h = omega (arith, length-hex (f .za1), s .za1-long)
@@ -63,7 +64,7 @@ item-most Na1k f d s h = omega (arith, length-hex (f .za1), s .za1-long)
 item-most Na2 f d s h = omega (arith, length-hex (f .za2), s .za2-long)
 item-most Na2k f d s h = omega (arith, length-hex (f .za2), s .za2-long)
 item-most Tab f d s h = omega (arith, length-hex (f .tab ∷ []))
-item-most Station f d s h = omega (arith, length-hex (f .announced), s .station-long)
+item-most Station f d s h = omega (arith, length-hex (f .announced), s .announced-long)
 item-most Data f d s h = data-most d h
 item-most Tabi f d s h = omega (arith, length-hex d)
 
@@ -105,13 +106,13 @@ items-most Tra = lit≤ tt
 items-most Pre = lit≤ tt
 items-most Sel = lit≤ tt
 
-pub head-most : (c : Command) (f : Fields) → Shaped f → length (headWords c f) ≤ 27
+pub head-most : (c : Command) (f : Fields) → Shaped f → length (headWords c f) ≤ mostHeadWords
 unfolding headWords
 head-most c f s =
     rw (length-append, length-append)
     (omega (arith, name-most c, length-hex (f .ads), s .ads-long, length-hex (f .adp ∷ [])))
 
-pub items-long : (i : Items) (f : Fields) (d : List ℕ) → Shaped f → length d ≤ 117 → length (itemsWords i f d) ≤ widths i
+pub items-long : (i : Items) (f : Fields) (d : List ℕ) → Shaped f → length d ≤ mostData → length (itemsWords i f d) ≤ widths i
 unfolding itemsWords
 items-long i f d s h =
     rw (length-append, length-append, length-append)
@@ -124,10 +125,10 @@ items-long i f d s h =
     ))
 
 -- DATA of a frame of 128 octets
-pub data-of-most : (c : Command) (s : List ℕ) → length s ≤ 128 → length (dataOf c s) ≤ 117
+pub data-of-most : (c : Command) (s : List ℕ) → length s ≤ longestFrame → length (dataOf c s) ≤ mostData
 unfolding dataOf
-data-of-most c s h = go (decLe (placesOf (layoutOf c) .content) (length s - 2))
+data-of-most c s h = go (decLe (placesOf (layoutOf c) .content .0) (length s - crcWidth))
   where
-    go : Dec (placesOf (layoutOf c) .content ≤ length s - 2) → length (partOf s (placesOf (layoutOf c) .content) (length s - 2)) ≤ 117
-    go (yes k) = rw (length-part s (placesOf (layoutOf c) .content) (length s - 2) k (omega arith)) (omega arith)
-    go (no k) = rw (part-none s (placesOf (layoutOf c) .content) (length s - 2) (omega arith)) (lit≤ tt)
+    go : Dec (placesOf (layoutOf c) .content .0 ≤ length s - crcWidth) → length (partOf s (placesOf (layoutOf c) .content .0) (length s - crcWidth)) ≤ mostData
+    go (yes k) = rw (length-part s (placesOf (layoutOf c) .content .0) (length s - crcWidth) k (omega arith)) (omega arith)
+    go (no k) = rw (part-none s (placesOf (layoutOf c) .content .0) (length s - crcWidth) (omega arith)) (lit≤ tt)

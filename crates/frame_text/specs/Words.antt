@@ -8,8 +8,7 @@ use Rattle.octets.specs.Splice.{spliced}
 use Rattle.text.specs.Text.{hexText}
 use Rattle.frame.specs.declared.codes.Command.{Command}
 use Rattle.frame.specs.declared.codes.Command.the-variants.{Enq, Dat, Rec, Ech, Aut, Eos, Aso, Rso, Ib, Drj, Arj, Trf, Trb, Tra, Pre, Sel}
-use Rattle.frame.specs.declared.checks.Verdict.{Verdict}
-use Rattle.frame.specs.declared.checks.Verdict.the-variants.{Good, Refused}
+use Rattle.numbers.specs.Answer.{Answer, given, refused, refusedAt}
 use Rattle.frame.specs.declared.content.Fields.{Fields}
 use Rattle.frame.specs.Content.{fieldsOf, dataOf}
 use Rattle.frame.specs.Checks.{inspected}
@@ -69,14 +68,26 @@ unfoldable pub wordsOf : Command → Fields → List ℕ → List ℕ
 wordsOf c f d = headWords c f ++ itemsWords (itemsOf c) f d
 
 -- the words of a slice that is a good frame; none of any other
-unfoldable pub wordsAs : Verdict → List ℕ → List ℕ
-wordsAs (Good c) s = wordsOf c (fieldsOf c s) (dataOf c s)
-wordsAs (Refused f) s = []
+unfoldable pub wordsAs : Answer Command → List ℕ → List ℕ
+wordsAs (given c) s = wordsOf c (fieldsOf c s) (dataOf c s)
+wordsAs (refused number) s = []
+wordsAs (refusedAt number offset) s = []
 
 unfoldable pub frameWords : List ℕ → List ℕ
 frameWords s = wordsAs (inspected s) s
 
--- the most octets that a field's words have: DATA and TABi have at most 117 octets in a frame of 128
+-- DATA and TABi have at most so many octets in the longest frame
+abbrev pub mostData : ℕ
+mostData = 117
+
+-- the most octets that the words of a frame have, and those of its head
+abbrev pub mostWords : ℕ
+mostWords = 320
+
+abbrev pub mostHeadWords : ℕ
+mostHeadWords = 27
+
+-- the most octets that a field's words have
 abbrev pub widthOf : Item → ℕ
 widthOf Nothing = 0
 widthOf Na1 = 21
@@ -91,9 +102,9 @@ widthOf Tabi = 240
 abbrev pub widths : Items → ℕ
 widths i = widthOf (i .first) + widthOf (i .second) + widthOf (i .third) + widthOf (i .fourth)
 
--- 320 octets hold the words of every frame: with fewer left from offset at on, nothing is written and the offset stays
+-- with fewer than the most octets left from offset at on, nothing is written and the offset stays
 unfoldable pub frameEnd : List ℕ → ℕ → List ℕ → ℕ
-frameEnd m at s = cond (leb (at + 320) (length m)) (at + length (frameWords s)) at
+frameEnd m at s = cond (leb (at + mostWords) (length m)) (at + length (frameWords s)) at
 
 unfoldable pub frameOver : List ℕ → ℕ → List ℕ → List ℕ
-frameOver m at s = cond (leb (at + 320) (length m)) (spliced m at (frameWords s)) m
+frameOver m at s = cond (leb (at + mostWords) (length m)) (spliced m at (frameWords s)) m

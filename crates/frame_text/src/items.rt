@@ -5,10 +5,11 @@ ghost use lib.ListN.{length};
 ghost use Rattle.octets.specs.Splice.{spliced};
 ghost use Rattle.text.specs.Text.{after};
 ghost use Rattle.frame_text.specs.declared.items.Item.the-variants.{Nothing};
-ghost use Rattle.frame_text.specs.Words.{row, itemsOf, widths, dataWords, itemWords, itemsWords};
+ghost use Rattle.frame_text.specs.Words.{mostData, row, itemsOf, widths, dataWords, itemWords, itemsWords};
 use frame::Command;
 use frame::Fields;
-use text::put_octets;
+use numbers::Octets;
+use text::put_hex;
 use text::put_words;
 
 // A field and the name that it has in a command's words.
@@ -80,13 +81,13 @@ pub(crate) fn items_of(command: Command) -> Items
 // The fields of a command's words, where they fit.
 pub(crate) fn put_items(
     buffer: &mut [u8],
-    at: usize,
+    at: Octets,
     items: Items,
     fields: Fields,
     data: &[u8],
-) -> usize
-    requires { ⌜ (at + widths items ≤ length (now buffer)) × (length (now «data») ≤ 117) ⌝ }
-    ensures { λ r. ⌜ (r ≡ after (now (buffer .entry)) at (itemsWords items fields (now («data» .entry)))) × (now (buffer .exit) ≡ spliced (now (buffer .entry)) at (itemsWords items fields (now («data» .entry)))) ⌝ }
+) -> Octets
+    requires { ⌜ (at .0 + widths items ≤ length (now buffer)) × (length (now «data») ≤ mostData) ⌝ }
+    ensures { λ r. ⌜ (r .0 ≡ after (now (buffer .entry)) (at .0) (itemsWords items fields (now («data» .entry)))) × (now (buffer .exit) ≡ spliced (now (buffer .entry)) (at .0) (itemsWords items fields (now («data» .entry)))) ⌝ }
 {
     let first = items.first;
     let second = items.second;
@@ -98,31 +99,31 @@ pub(crate) fn put_items(
     put_item(buffer, fourth_at, fourth, fields, data)
 }
 
-fn put_item(buffer: &mut [u8], at: usize, item: Item, fields: Fields, data: &[u8]) -> usize
-    ensures { λ r. ⌜ (r ≡ after (now (buffer .entry)) at (itemWords item fields (now («data» .entry)))) × (now (buffer .exit) ≡ spliced (now (buffer .entry)) at (itemWords item fields (now («data» .entry)))) ⌝ }
+fn put_item(buffer: &mut [u8], at: Octets, item: Item, fields: Fields, data: &[u8]) -> Octets
+    ensures { λ r. ⌜ (r .0 ≡ after (now (buffer .entry)) (at .0) (itemWords item fields (now («data» .entry)))) × (now (buffer .exit) ≡ spliced (now (buffer .entry)) (at .0) (itemWords item fields (now («data» .entry)))) ⌝ }
 {
     let za1 = fields.za1;
     let za2 = fields.za2;
     let announced = fields.announced;
     match item {
         Item::Nothing => at,
-        Item::Na1 => put_octets(buffer, at, b" NA1 ", &za1),
-        Item::Na1k => put_octets(buffer, at, b" NA1K ", &za1),
-        Item::Na2 => put_octets(buffer, at, b" NA2 ", &za2),
-        Item::Na2k => put_octets(buffer, at, b" NA2K ", &za2),
-        Item::Tab => put_octets(buffer, at, b" TAB ", &[fields.tab]),
-        Item::Station => put_octets(buffer, at, b" ADS ", &announced),
+        Item::Na1 => put_hex(buffer, at, b" NA1 ", &za1),
+        Item::Na1k => put_hex(buffer, at, b" NA1K ", &za1),
+        Item::Na2 => put_hex(buffer, at, b" NA2 ", &za2),
+        Item::Na2k => put_hex(buffer, at, b" NA2K ", &za2),
+        Item::Tab => put_hex(buffer, at, b" TAB ", &[fields.tab]),
+        Item::Station => put_hex(buffer, at, b" ADS ", &announced),
         Item::Data => put_data(buffer, at, data),
-        Item::Tabi => put_octets(buffer, at, b" TABi ", data),
+        Item::Tabi => put_hex(buffer, at, b" TABi ", data),
     }
 }
 
 // DATA of no octets is its name alone.
-fn put_data(buffer: &mut [u8], at: usize, data: &[u8]) -> usize
-    ensures { λ r. ⌜ (r ≡ after (now (buffer .entry)) at (dataWords (now («data» .entry)))) × (now (buffer .exit) ≡ spliced (now (buffer .entry)) at (dataWords (now («data» .entry)))) ⌝ }
+fn put_data(buffer: &mut [u8], at: Octets, data: &[u8]) -> Octets
+    ensures { λ r. ⌜ (r .0 ≡ after (now (buffer .entry)) (at .0) (dataWords (now («data» .entry)))) × (now (buffer .exit) ≡ spliced (now (buffer .entry)) (at .0) (dataWords (now («data» .entry)))) ⌝ }
 {
     if data.len() == 0 {
         return put_words(buffer, at, b" DATA");
     }
-    put_octets(buffer, at, b" DATA ", data)
+    put_hex(buffer, at, b" DATA ", data)
 }

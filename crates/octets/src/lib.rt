@@ -84,6 +84,13 @@ pub fn hundred(s: &[u8]) -> [u8; 100]
     a
 }
 
+// An octet as a number of 64 bits.
+pub fn wide(octet: u8) -> u64
+    ensures { λ r. ⌜ r ≡ octet ⌝ }
+{
+    octet as u64
+}
+
 // Whether two slices hold the same octets.
 pub fn equal(a: &[u8], b: &[u8]) -> bool
     ensures { λ r. ⌜ r ≡ same (now (a .entry)) (now (b .entry)) ⌝ }

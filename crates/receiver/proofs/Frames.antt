@@ -7,9 +7,8 @@ use lib.ListN.{length, getD, replicate}
 use lib.Seq.{append-snoc}
 use borrow.Author.Tests.{eq-eqb}
 use Rattle.frame.specs.declared.codes.Command.{Command}
-use Rattle.frame.specs.declared.checks.Fault.the-variants.{OutOfRange}
-use Rattle.frame.specs.declared.checks.Stated.the-variants.{Outside}
-use Rattle.frame.specs.declared.checks.Verdict.the-variants.{Good}
+use Rattle.numbers.specs.Table.{lengthOutOfRange}
+use Rattle.numbers.specs.Answer.{given, refused, whenGiven}
 use Rattle.frame.specs.Checks.{statedBy, judged, inspected, inspectedAs}
 use Rattle.frame.proofs.GoodFrame.{inspected-good}
 use Rattle.receiver.specs.Receiving.{Reception, Awaiting, Skipping, Partial, Outcome, Silent, Dropped, Complete, Course, after, to, begun, judgedOutcome, verdictOn, onOctet, onOctets, WholeFrame}
@@ -57,20 +56,20 @@ whole-frame (n ∷ o ∷ t) w =
 
 -- a slice is a good frame where its whole length has come and its checks pass
 pub whole-inspected : (f : List ℕ) → WholeFrame f → inspected f ≡ judged f
-unfolding inspected inspectedAs
+unfolding inspected inspectedAs whenGiven
 whole-inspected [] w = absurd (omega (arith, w .least))
 whole-inspected (n ∷ t) w =
     let e = w .stated in
     let in-range = stated-whole n (omega (arith, w .least)) (omega (arith, w .most)) in
     rw (in-range, eq-eqb (length (n ∷ t)) n (omega arith))
 
-pub good-whole : (f : List ℕ) (c : Command) → inspected f ≡ Good c → WholeFrame f
+pub good-whole : (f : List ℕ) (c : Command) → inspected f ≡ given c → WholeFrame f
 good-whole f c e =
     let g = inspected-good f c e in
     record { least = g .least; most = g .most; stated = g .n }
 
 -- a good frame comes out at its last octet, with silence before it
-pub good-frame : (f : List ℕ) (c : Command) → inspected f ≡ Good c → onOctets f Awaiting ≡ endingIn (length f - 1) (Complete c f)
+pub good-frame : (f : List ℕ) (c : Command) → inspected f ≡ given c → onOctets f Awaiting ≡ endingIn (length f - 1) (Complete c f)
 unfolding judgedOutcome
 good-frame f c e =
     let w = good-whole f c e in
@@ -82,6 +81,6 @@ silent [] = refl
 silent (o ∷ s) = rw (silent s)
 
 -- 1 at the bad N itself, and nothing for the octets after it
-pub skipped : (n : ℕ) (s : List ℕ) → statedBy n ≡ Outside → onOctets (n ∷ s) Awaiting ≡ record { outcomes = Dropped OutOfRange ∷ replicate (length s) Silent; last = Skipping }
+pub skipped : (n : ℕ) (s : List ℕ) → statedBy n ≡ refused lengthOutOfRange → onOctets (n ∷ s) Awaiting ≡ record { outcomes = Dropped lengthOutOfRange ∷ replicate (length s) Silent; last = Skipping }
 unfolding onOctets onOctet begun
 skipped n s e = rw (e, silent s)

@@ -9,6 +9,7 @@ use lib.Seq.{getD-take, length-take-le}
 use borrow.Author.Tests.{lt-ltb, le-ltb}
 use Rattle.octets.specs.Splice.{spliced, fronted}
 use Rattle.octets.proofs.Splice.{spliced-front, length-fronted, take-fronted}
+use Rattle.frame.specs.Sizes.{longestFrame}
 use Rattle.receiver.specs.declared.Receiver.{Receiver}
 use Rattle.receiver.specs.Receiving.{Awaiting, Partial, Silent, to, grown, verdictOn}
 use Rattle.receiver.specs.Receiver.{heldWith, holding, noFrame}
@@ -37,13 +38,13 @@ module _ (n : ℕ) (l : List ℕ) (o : ℕ) (within : n ≤ length l) where
   pub first-held : 0 < n → getD (take n l ++ (o ∷ [])) 0 0 ≡ getD l 0 0
   first-held p = first-snoc (take n l) o (rw held p) ∙ getD-take n l 0 0 p
 
-  pub whole-length : n < 128 → length (fronted (take n l ++ (o ∷ [])) noFrame) ≡ 128
+  pub whole-length : n < longestFrame → length (fronted (take n l ++ (o ∷ [])) noFrame) ≡ longestFrame
   whole-length h = length-fronted (take n l ++ (o ∷ [])) noFrame (rw length-held (omega arith))
 
   pub whole-front : take (n + 1) (fronted (take n l ++ (o ∷ [])) noFrame) ≡ take n l ++ (o ∷ [])
   whole-front = rw (← length-held) (take-fronted (take n l ++ (o ∷ [])) noFrame)
 
-  pub whole-stored : n < 128 → set (spliced noFrame 0 (take n l)) n o ≡ fronted (take n l ++ (o ∷ [])) noFrame
+  pub whole-stored : n < longestFrame → set (spliced noFrame 0 (take n l)) n o ≡ fronted (take n l ++ (o ∷ [])) noFrame
   whole-stored h =
       rw (spliced-front noFrame (take n l) (rw held (omega arith)), ← front-next (take n l) noFrame o (rw held h), held)
 

@@ -8,3 +8,4 @@ pub mod Follows
 pub mod Frames
 pub mod Feeding
 pub mod Arrival
+pub mod Recovery

@@ -1,6 +1,6 @@
 -- The test for 12 says what `Sound` says, and a receiver is sound exactly by the reception that it holds.
 use Prim.Native.Nat.{ℕ, _<_}
-use mathlib.Core.Path.{_≡_, refl, _∙_}
+use mathlib.Core.Path.{_≡_, refl, sym, _∙_}
 use mathlib.Core.Bool.{Bool, true, false, cond, _||_}
 use mathlib.Core.List.{List}
 use native.Mathlib.Decide.{decLt}
@@ -10,21 +10,22 @@ use lib.ListN.{length, getD, take}
 use lib.Seq.{getD-take, length-take-le}
 use borrow.Author.Tests.{eq-eqb, ne-eqb, eqb-true, lt-ltb, ltb-true}
 use Rattle.octets.proofs.Splice.{length-fronted, take-fronted}
-use Rattle.frame.specs.declared.checks.Stated.{Stated}
-use Rattle.frame.specs.declared.checks.Stated.the-variants.{Whole, Outside}
+use Rattle.numbers.specs.Answer.{Answer, given, refused, refusedAt}
+use Rattle.numbers.specs.declared.Octets.{Octets}
 use Rattle.frame.specs.Checks.{statedBy}
 use Rattle.receiver.specs.declared.Receiver.{Receiver}
 use Rattle.receiver.specs.Receiving.{Reception, Awaiting, Skipping, Partial}
-use Rattle.receiver.specs.Receiver.{Unfinished, Sound, sound, fresh, statedN, fewer, receptionOf, holding}
+use Rattle.receiver.specs.Receiver.{mostHeld, Unfinished, Sound, sound, fresh, statedN, fewer, receptionOf, holding}
 use Rattle.octets.proofs.Impossible.{impossible}
 use Rattle.receiver.proofs.Fronts.{front-first}
 use Rattle.receiver.proofs.Stated.{stated-whole, stated-range}
 
-fewer-unfinished : (n k : ℕ) (s : Stated) → statedBy k ≡ s → fewer n s ≡ true → Unfinished n k
-fewer-unfinished n k Outside e t = impossible (cc)
-fewer-unfinished n k (Whole w) e t =
+fewer-unfinished : (n k : ℕ) (s : Answer Octets) → statedBy k ≡ s → fewer n s ≡ true → Unfinished n k
+fewer-unfinished n k (given w) e t =
     let g = stated-range k w e in
     record { least = g .least; most = g .most; short = omega (arith, ltb-true n (w .0) t, g .whole) }
+fewer-unfinished n k (refused number) e t = impossible (cc)
+fewer-unfinished n k (refusedAt number offset) e t = impossible (cc)
 
 test-partly : (b : Bool) (n k : ℕ) → (b || (eqb n 0 || fewer n (statedBy k))) ≡ true → b ≡ false → 0 < n → Unfinished n k
 test-partly true n k e f p = impossible (cc)
@@ -59,17 +60,25 @@ unfolding receptionOf
 fresh-awaiting = refl
 
 -- an empty receiver skips nothing and holds no octet
-empty-none : (r : Receiver) → receptionOf r ≡ Awaiting → r .count .0 ≡ 0
+empty-none : (r : Receiver) → receptionOf r ≡ Awaiting → (r .skipping ≡ false) × (r .count .0 ≡ 0)
 unfolding receptionOf
-empty-none r = go (r .skipping) (eqb (r .count .0) 0) refl
+empty-none r = go (r .skipping) refl (eqb (r .count .0) 0) refl
   where
-    go : (b t : Bool) → eqb (r .count .0) 0 ≡ t → cond b Skipping (cond t Awaiting (Partial (take (r .count .0) (r .octets)))) ≡ Awaiting → r .count .0 ≡ 0
-    go true t q e = impossible (cc)
-    go false true q e = eqb-true _ _ q
-    go false false q e = impossible (cc)
+    go : (b : Bool) → r .skipping ≡ b → (t : Bool) → eqb (r .count .0) 0 ≡ t → cond b Skipping (cond t Awaiting (Partial (take (r .count .0) (r .octets)))) ≡ Awaiting
+        → (r .skipping ≡ false) × (r .count .0 ≡ 0)
+    go true p t q e = impossible (cc)
+    go false p true q e = (p, eqb-true _ _ q)
+    go false p false q e = impossible (cc)
+
+-- so a gap between frames leaves it as it is
+pub still-awaiting : (r : Receiver) → receptionOf r ≡ Awaiting → holding Awaiting r ≡ r
+unfolding holding
+still-awaiting r e =
+    let empty = empty-none r e in
+    λ i. record { skipping = sym (empty .0) i; count = record { 0 = sym (empty .1) i }; octets = r .octets }
 
 pub empty-sound : (r : Receiver) → receptionOf r ≡ Awaiting → Sound r
-empty-sound r e = record { partly = λ s. none-partly (r .count .0) (empty-none r e) }
+empty-sound r e = record { partly = λ s. none-partly (r .count .0) (empty-none r e .1) }
 
 -- The octets of a partly received frame that 12 does not refuse.
 pub record Partly (s : List ℕ) : Type 0 where
@@ -81,13 +90,13 @@ SoundReception Awaiting = Unit {0}
 SoundReception Skipping = Unit {0}
 SoundReception (Partial s) = Partly s
 
-front-partly : (n : ℕ) (l : List ℕ) → length l ≡ 127 → 0 < n → Unfinished n (getD l 0 0) → Partly (take n l)
+front-partly : (n : ℕ) (l : List ℕ) → length l ≡ mostHeld → 0 < n → Unfinished n (getD l 0 0) → Partly (take n l)
 front-partly n l e p c =
     let w : length (take n l) ≡ n = length-take-le n l (omega (arith, c .short, c .most)) in
     let f : getD (take n l) 0 0 ≡ getD l 0 0 = getD-take n l 0 0 p in
     record { some = rw w p; unfinished = rw (w, f) c }
 
-pub reception-sound : (r : Receiver) → Sound r → length (r .octets) ≡ 127 → SoundReception (receptionOf r)
+pub reception-sound : (r : Receiver) → Sound r → length (r .octets) ≡ mostHeld → SoundReception (receptionOf r)
 unfolding receptionOf
 reception-sound r s l = go (r .skipping) (r .count .0) (s .partly)
   where
@@ -107,7 +116,7 @@ holding-sound Skipping r t = record { partly = λ e p. impossible (cc) }
 holding-sound (Partial s) r t =
     record { partly = λ e p. rw (front-first s (r .octets) (t .some)) (t .unfinished) }
 
-pub holding-long : (h : Reception) (r : Receiver) → SoundReception h → length (r .octets) ≡ 127 → length (holding h r .octets) ≡ 127
+pub holding-long : (h : Reception) (r : Receiver) → SoundReception h → length (r .octets) ≡ mostHeld → length (holding h r .octets) ≡ mostHeld
 unfolding holding
 holding-long Awaiting r t l = l
 holding-long Skipping r t l = l

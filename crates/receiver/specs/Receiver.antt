@@ -1,43 +1,57 @@
 -- A receiver by value: which reception it holds, when it is refused, and what each event gives and leaves.
 use Prim.Native.Nat.{ℕ, _≤_, _<_}
-use mathlib.Core.Path.{_≡_, refl}
+use mathlib.Core.Path.{_≡_}
 use mathlib.Core.List.{List, [], _∷_, _++_}
+use mathlib.Core.Option.{Option, none, some}
 use mathlib.Core.Bool.{Bool, true, false, cond, _||_}
 use lib.ListN.{length, getD, take, replicate}
 use lib.Dec.{eqb, ltb}
 use Rattle.octets.specs.Splice.{fronted}
-use Rattle.frame.specs.declared.checks.Stated.{Stated}
-use Rattle.frame.specs.declared.checks.Stated.the-variants.{Whole, Outside}
+use Rattle.numbers.specs.Table.{brokenRule}
+use Rattle.numbers.specs.Answer.{Answer, given, refused, refusedAt}
+use Rattle.numbers.specs.declared.Octets.{Octets}
+use Rattle.frame.specs.declared.codes.Command.{Command}
+use Rattle.frame.specs.Sizes.{shortestFrame, longestFrame}
 use Rattle.frame.specs.Checks.{faultNumber, statedBy}
 use Rattle.receiver.specs.declared.Receiver.{Receiver}
 use Rattle.receiver.specs.declared.Event.{Event}
-use Rattle.receiver.specs.declared.Event.the-variants.{Nothing, Bad, Good, Refused}
+use Rattle.receiver.specs.declared.Event.the-variants as event
 use Rattle.receiver.specs.declared.Received.{Received}
 use Rattle.receiver.specs.Receiving.{Reception, Awaiting, Skipping, Partial, Outcome, Silent, Dropped, Complete, Step, onOctet, onGap, onSessionEnd}
 
--- 01, Numbers handed back; 0 where there is none.
-abbrev pub eventNumber : Event → ℕ
-eventNumber Nothing = 0
-eventNumber (Bad f) = faultNumber f
-eventNumber (Good c) = 0
-eventNumber Refused = 12
+-- What an event answers: a number, or the command of a good frame, or neither.
+abbrev pub answerOfEvent : Event → Answer (Option Command)
+answerOfEvent event.Nothing = given none
+answerOfEvent (event.Bad f) = refused (faultNumber f)
+answerOfEvent (event.Good c) = given (some c)
+answerOfEvent event.Refused = refused brokenRule
 
--- the event, which has this number
-abbrev pub numbered : (e : Event) (n : ℕ) → eventNumber e ≡ n → Event
-numbered e n p = e
+-- What an event gives and leaves: the next receiver, the answer, and the octets of a good frame.
+pub record Response : Type 0 where
+  pub receiver : Receiver
+  pub answer : Answer (Option Command)
+  pub frame : List ℕ
+
+abbrev pub answerOfReceived : Received → Response
+answerOfReceived r = record { receiver = r .receiver; answer = answerOfEvent (r .event); frame = r .frame }
+
+-- A partly received frame has fewer octets than its N states, so one less than the longest frame at most.
+abbrev pub mostHeld : ℕ
+mostHeld = 127
 
 -- 01, The card: "Fresh, as setup leaves a card: receiver empty".
 abbrev pub fresh : Receiver
-fresh = record { skipping = false; count = record { 0 = 0 }; octets = replicate 127 0 }
+fresh = record { skipping = false; count = record { 0 = 0 }; octets = replicate mostHeld 0 }
 
 -- the first octet held
 abbrev pub statedN : Receiver → ℕ
 statedN r = getD (r .octets) 0 0
 
 -- fewer octets than N states, and an N that answer 1 would not refuse
-abbrev pub fewer : ℕ → Stated → Bool
-fewer n Outside = false
-fewer n (Whole w) = ltb n (w .0)
+abbrev pub fewer : ℕ → Answer Octets → Bool
+fewer n (given whole) = ltb n (whole .0)
+fewer n (refused number) = false
+fewer n (refusedAt number offset) = false
 
 -- 01, The card: refused with 12 is "a partly received frame whose N answer 1 would refuse, or with as many octets as its N states or more".
 unfoldable pub sound : Receiver → Bool
@@ -45,8 +59,8 @@ sound r = r .skipping || (eqb (r .count .0) 0 || fewer (r .count .0) (statedBy (
 
 -- The same rule in numbers: n octets of a frame whose N is k have come, and neither reason of 12 applies.
 pub record Unfinished (n k : ℕ) : Type 0 where
-  pub least : 11 ≤ k
-  pub most : k ≤ 128
+  pub least : shortestFrame ≤ k
+  pub most : k ≤ longestFrame
   pub short : n < k
 
 -- A frame is partly received where octets are held and none is skipped. Nothing else is a reason for 12.
@@ -68,41 +82,41 @@ holding Awaiting r = record { skipping = false; count = record { 0 = 0 }; octets
 holding Skipping r = record { skipping = true; count = r .count; octets = r .octets }
 holding (Partial s) r = record { skipping = false; count = record { 0 = length s }; octets = fronted s (r .octets) }
 
-unfoldable pub eventOf : Outcome → Event
-eventOf Silent = Nothing
-eventOf (Dropped f) = Bad f
-eventOf (Complete c s) = Good c
+unfoldable pub answerTo : Outcome → Answer (Option Command)
+answerTo Silent = given none
+answerTo (Dropped number) = refused number
+answerTo (Complete c s) = given (some c)
 
 abbrev pub noFrame : List ℕ
-noFrame = replicate 128 0
+noFrame = replicate longestFrame 0
 
 -- The octets of a good frame with zeros after them, and zeros alone where there is none.
 unfoldable pub frameOf : Outcome → List ℕ
 frameOf Silent = noFrame
-frameOf (Dropped f) = noFrame
+frameOf (Dropped number) = noFrame
 frameOf (Complete c s) = fronted s noFrame
 
-abbrev pub given : Receiver → Step → Received
-given r s = record { receiver = holding (s .next) r; event = eventOf (s .outcome); frame = frameOf (s .outcome) }
+abbrev pub stepped : Receiver → Step → Response
+stepped r s = record { receiver = holding (s .next) r; answer = answerTo (s .outcome); frame = frameOf (s .outcome) }
 
-abbrev pub refused : Receiver → Received
-refused r = record { receiver = r; event = numbered Refused 12 refl; frame = noFrame }
+abbrev pub broken : Receiver → Response
+broken r = record { receiver = r; answer = refused brokenRule; frame = noFrame }
 
 -- What an event gives and leaves: 12 first, with the receiver handed back as it was; else as 01, Receiving, says.
-abbrev pub answered : (Reception → Step) → Receiver → Received
-answered f r = cond (sound r) (given r (f (receptionOf r))) (refused r)
+abbrev pub answered : (Reception → Step) → Receiver → Response
+answered f r = cond (sound r) (stepped r (f (receptionOf r))) (broken r)
 
-unfoldable pub afterOctet : Receiver → ℕ → Received
+unfoldable pub afterOctet : Receiver → ℕ → Response
 afterOctet r o = answered (onOctet o) r
 
-unfoldable pub afterGap : Receiver → Received
+unfoldable pub afterGap : Receiver → Response
 afterGap r = answered onGap r
 
-unfoldable pub afterSessionEnd : Receiver → Received
+unfoldable pub afterSessionEnd : Receiver → Response
 afterSessionEnd r = answered onSessionEnd r
 
 -- The answers to octets given one after the other, each to the receiver that the last call gave back, and the receiver that is left.
-unfoldable pub afterOctets : Receiver → List ℕ → List Received
+unfoldable pub afterOctets : Receiver → List ℕ → List Response
 afterOctets r [] = []
 afterOctets r (o ∷ s) = afterOctet r o ∷ afterOctets (afterOctet r o .receiver) s
 

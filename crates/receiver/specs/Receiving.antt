@@ -1,18 +1,16 @@
 -- Octets, gaps and session ends into frames, on lists: 01, Receiving. Nothing here speaks of how a receiver is stored.
 use Prim.Native.Nat.{ℕ, _≤_}
-use mathlib.Core.Path.{_≡_, refl}
+use mathlib.Core.Path.{_≡_}
 use mathlib.Core.List.{List, [], _∷_, _++_}
 use mathlib.Core.Bool.{cond}
 use lib.ListN.{length, getD}
 use lib.Dec.{ltb}
+use Rattle.numbers.specs.Table.{cutFrame}
+use Rattle.numbers.specs.Answer.{Answer, given, refused, refusedAt}
+use Rattle.numbers.specs.declared.Octets.{Octets}
 use Rattle.frame.specs.declared.codes.Command.{Command}
-use Rattle.frame.specs.declared.checks.Stated.{Stated}
-use Rattle.frame.specs.declared.checks.Stated.the-variants.{Whole, Outside}
-use Rattle.frame.specs.declared.checks.Fault.{Fault}
-use Rattle.frame.specs.declared.checks.Fault.the-variants.{OutOfRange, Cut}
-use Rattle.frame.specs.declared.checks.Verdict.{Verdict}
-use Rattle.frame.specs.declared.checks.Verdict.the-variants.{Good, Refused}
-use Rattle.frame.specs.Checks.{faultNumber, statedBy, judged}
+use Rattle.frame.specs.Sizes.{shortestFrame, longestFrame}
+use Rattle.frame.specs.Checks.{statedBy, judged}
 
 -- What has come of the present frame: nothing, so that the next octet is an N; a bad N, so that octets are skipped; or these octets, N first.
 pub data Reception : Type 0 where
@@ -20,15 +18,11 @@ pub data Reception : Type 0 where
   Skipping : Reception
   Partial : List ℕ → Reception
 
--- What an event gives: nothing; a frame that is dropped with 1 to 5; or a good frame with its octets.
+-- What an event gives: nothing; a frame that is dropped with its number, 1 to 5; or a good frame with its octets.
 pub data Outcome : Type 0 where
   Silent : Outcome
-  Dropped : Fault → Outcome
+  Dropped : ℕ → Outcome
   Complete : Command → List ℕ → Outcome
-
--- a frame dropped with the fault of this number
-abbrev pub dropped : (f : Fault) (n : ℕ) → faultNumber f ≡ n → Outcome
-dropped f n e = Dropped f
 
 pub record Step : Type 0 where
   pub next : Reception
@@ -38,13 +32,15 @@ abbrev pub to : Reception → Outcome → Step
 to h o = record { next = h; outcome = o }
 
 -- "The first octet is N. If the whole length it states is under 11 or over 128, answer 1: all octets are skipped until a gap event"
-unfoldable pub begun : Stated → ℕ → Step
-begun Outside n = to Skipping (dropped OutOfRange 1 refl)
-begun (Whole w) n = to (Partial (n ∷ [])) Silent
+unfoldable pub begun : Answer Octets → ℕ → Step
+begun (given whole) n = to (Partial (n ∷ [])) Silent
+begun (refused number) n = to Skipping (Dropped number)
+begun (refusedAt number offset) n = to Skipping (Dropped number)
 
-unfoldable pub judgedOutcome : Verdict → List ℕ → Outcome
-judgedOutcome (Good c) s = Complete c s
-judgedOutcome (Refused f) s = Dropped f
+unfoldable pub judgedOutcome : Answer Command → List ℕ → Outcome
+judgedOutcome (given c) s = Complete c s
+judgedOutcome (refused number) s = Dropped number
+judgedOutcome (refusedAt number offset) s = Dropped number
 
 -- "When the whole length has come, checks run in this order"
 abbrev pub verdictOn : List ℕ → Outcome
@@ -63,7 +59,7 @@ onOctet o (Partial s) = grown (s ++ (o ∷ []))
 unfoldable pub onGap : Reception → Step
 onGap Awaiting = to Awaiting Silent
 onGap Skipping = to Awaiting Silent
-onGap (Partial s) = to Awaiting (dropped Cut 3 refl)
+onGap (Partial s) = to Awaiting (Dropped cutFrame)
 
 -- 01, The card: a session end "empties the receiver, which then awaits an N".
 unfoldable pub onSessionEnd : Reception → Step
@@ -83,6 +79,6 @@ onOctets (o ∷ s) h = after (onOctet o h .outcome) (onOctets s (onOctet o h .ne
 
 -- The octets of a frame whose whole length has come: as many as N states, and an N that answer 1 does not refuse.
 pub record WholeFrame (f : List ℕ) : Type 0 where
-  pub least : 11 ≤ length f
-  pub most : length f ≤ 128
+  pub least : shortestFrame ≤ length f
+  pub most : length f ≤ longestFrame
   pub stated : getD f 0 0 ≡ length f

@@ -2,9 +2,11 @@
 ghost use mathlib.Core.Path.{_≡_};
 ghost use Prim.Native.Nat.{_<_};
 ghost use Rattle.octets.specs.Splice.{fronted};
+ghost use Rattle.numbers.specs.Answer.{numberOf};
+ghost use Rattle.frame.specs.Sizes.{longestFrame};
 ghost use Rattle.frame.specs.Checks.{statedBy};
 ghost use Rattle.receiver.specs.Receiving.{Awaiting, Partial, to, begun, verdictOn, grown};
-ghost use Rattle.receiver.specs.Receiver.{Unfinished, eventNumber, fresh, statedN, sound, heldWith, holding, given, noFrame, afterOctet, afterGap, afterSessionEnd};
+ghost use Rattle.receiver.specs.Receiver.{Unfinished, answerOfEvent, answerOfReceived, mostHeld, fresh, statedN, sound, heldWith, holding, stepped, noFrame, afterOctet, afterGap, afterSessionEnd};
 use frame::Command;
 use frame::Fault;
 use frame::Verdict;
@@ -12,13 +14,18 @@ use frame::checks::Stated;
 use frame::checks::fault_number;
 use frame::checks::stated_by;
 use frame::judge;
+use frame::sizes::LONGEST_FRAME;
 use numbers::Octets;
+use numbers::table;
+
+// The most octets of a partly received frame: one less than the longest frame has. `specs/Receiver.antt` has the same name.
+pub const MOST_HELD: usize = 127;
 
 // The octets of a partly received frame, N first. Those at and past the count are free.
 pub struct Receiver {
     pub skipping: bool,
     pub count: Octets,
-    pub octets: [u8; 127],
+    pub octets: [u8; MOST_HELD],
 }
 
 // What an octet, a gap or a session end gives.
@@ -33,31 +40,31 @@ pub enum Event {
 pub struct Received {
     pub receiver: Receiver,
     pub event: Event,
-    pub frame: [u8; 128],
+    pub frame: [u8; LONGEST_FRAME],
 }
 
 impl Event {
     // The number that goes to the host; 0 where there is none.
     pub fn number(self) -> u8
-        ensures { λ r. ⌜ r ≡ eventNumber self ⌝ }
+        ensures { λ r. ⌜ r ≡ numberOf (answerOfEvent self) ⌝ }
     {
         match self {
-            Event::Nothing => 0,
+            Event::Nothing => table::NONE,
             Event::Bad(fault) => fault_number(fault),
-            Event::Good(_) => 0,
-            Event::Refused => 12,
+            Event::Good(_) => table::NONE,
+            Event::Refused => table::BROKEN_RULE,
         }
     }
 }
 
 // An answer without a frame.
 fn answer(receiver: Receiver, event: Event) -> Received
-    ensures { λ r. ⌜ r ≡ record { receiver = receiver; event = event; frame = noFrame } ⌝ }
+    ensures { λ r. ⌜ answerOfReceived r ≡ record { receiver = receiver; answer = answerOfEvent event; frame = noFrame } ⌝ }
 {
     Received {
         receiver: receiver,
         event: event,
-        frame: [0u8; 128],
+        frame: [0u8; LONGEST_FRAME],
     }
 }
 
@@ -69,7 +76,7 @@ impl Receiver {
         Receiver {
             skipping: false,
             count: Octets(0),
-            octets: [0u8; 127],
+            octets: [0u8; MOST_HELD],
         }
     }
 
@@ -92,7 +99,7 @@ impl Receiver {
 
     // 1 at an N out of range; 2, 4 or 5 where a bad frame is complete with this octet.
     pub fn octet(self, octet: u8) -> Received
-        ensures { λ r. ⌜ r ≡ afterOctet self octet ⌝ }
+        ensures { λ r. ⌜ answerOfReceived r ≡ afterOctet self octet ⌝ }
     {
         if !self.is_sound() {
             return answer(self, Event::Refused);
@@ -109,7 +116,7 @@ impl Receiver {
 
     // 3 inside a frame; after it the next octet is an N.
     pub fn gap(self) -> Received
-        ensures { λ r. ⌜ r ≡ afterGap self ⌝ }
+        ensures { λ r. ⌜ answerOfReceived r ≡ afterGap self ⌝ }
     {
         if !self.is_sound() {
             return answer(self, Event::Refused);
@@ -127,7 +134,7 @@ impl Receiver {
 
     // No number, whatever was held; after it the next octet is an N.
     pub fn session_end(self) -> Received
-        ensures { λ r. ⌜ r ≡ afterSessionEnd self ⌝ }
+        ensures { λ r. ⌜ answerOfReceived r ≡ afterSessionEnd self ⌝ }
     {
         if !self.is_sound() {
             return answer(self, Event::Refused);
@@ -149,7 +156,7 @@ impl Receiver {
 
     // One octet more of a frame that is not complete with it.
     fn hold(self, octet: u8) -> Receiver
-        requires { ⌜ self .count .0 < 127 ⌝ }
+        requires { ⌜ self .count .0 < mostHeld ⌝ }
         ensures { λ r. ⌜ r ≡ holding (Partial (heldWith self octet)) self ⌝ }
     {
         let count = self.count;
@@ -166,7 +173,7 @@ impl Receiver {
     // The octet is an N.
     fn begin(self, octet: u8) -> Received
         requires { ⌜ self .count .0 ≡ 0 ⌝ }
-        ensures { λ r. ⌜ r ≡ given self (begun (statedBy octet) octet) ⌝ }
+        ensures { λ r. ⌜ answerOfReceived r ≡ stepped self (begun (statedBy octet) octet) ⌝ }
     {
         let Stated::Whole(_) = stated_by(octet) else {
             let mut next = self;
@@ -179,7 +186,7 @@ impl Receiver {
     // One octet more of a partly received frame.
     fn extend(self, octet: u8) -> Received
         requires { ⌜ (0 < self .count .0) × Unfinished (self .count .0) (statedN self) ⌝ }
-        ensures { λ r. ⌜ r ≡ given self (grown (heldWith self octet)) ⌝ }
+        ensures { λ r. ⌜ answerOfReceived r ≡ stepped self (grown (heldWith self octet)) ⌝ }
     {
         let count = self.count;
         let whole = self.octets[0] as usize;
@@ -191,14 +198,14 @@ impl Receiver {
     }
 
     // The octets of a frame with its last one, and zeros after them.
-    fn whole(self, octet: u8) -> [u8; 128]
-        requires { ⌜ self .count .0 < 128 ⌝ }
+    fn whole(self, octet: u8) -> [u8; LONGEST_FRAME]
+        requires { ⌜ self .count .0 < longestFrame ⌝ }
         ensures { λ r. ⌜ r ≡ fronted (heldWith self octet) noFrame ⌝ }
     {
         let count = self.count;
         let end = count.0;
         let octets = self.octets;
-        let mut frame = [0u8; 128];
+        let mut frame = [0u8; LONGEST_FRAME];
         octets::put(&mut frame, 0, &octets[..end]);
         frame[end] = octet;
         frame
@@ -206,8 +213,8 @@ impl Receiver {
 
     // The frame's whole length has come with this octet.
     fn complete(self, octet: u8) -> Received
-        requires { ⌜ self .count .0 < 128 ⌝ }
-        ensures { λ r. ⌜ r ≡ given self (to Awaiting (verdictOn (heldWith self octet))) ⌝ }
+        requires { ⌜ self .count .0 < longestFrame ⌝ }
+        ensures { λ r. ⌜ answerOfReceived r ≡ stepped self (to Awaiting (verdictOn (heldWith self octet))) ⌝ }
     {
         let count = self.count;
         let end = count.0 + 1;

@@ -1,12 +1,13 @@
 -- The decimal digits of a number, laid from the end of an array.
 use Prim.Native.Nat.{ℕ, zero, suc, _+_, _-_, _/_, _%_, _^_, _≤_, _<_}
 use mathlib.Core.Path.{_≡_, refl, sym, _∙_}
+use mathlib.Core.Bool.{Bool, true, false, cond}
 use mathlib.Core.List.{List, [], _∷_, _++_, append-assoc, append-nil}
 use native.Mathlib.Nat.{pow-suc, div-lt-iff-lt-mul}
 use native.Mathlib.Omega.{arith}
-use lib.ListN.{length, take, drop, set, length-set, drop-of-length-le}
+use lib.ListN.{length, take, drop, set, length-append, length-set, drop-of-length-le}
 use lib.Seq.{set-split, drop-at, length-take-le}
-use lib.Dec.{lit<, lit≤}
+use lib.Dec.{ltb, lit<, lit≤}
 use borrow.Author.Tests.{lt-ltb, le-ltb}
 use Rattle.text.specs.Text.{decimal, decimalText}
 
@@ -18,6 +19,20 @@ one-digit (suc k) n h = rw (lt-ltb n 10 h)
 last-digit : (k n : ℕ) → 10 ≤ n → decimal (suc k) n ≡ decimal k (n / 10) ++ ((48 + n % 10) ∷ [])
 unfolding decimal
 last-digit k n h = rw (le-ltb n 10 h)
+
+-- how many digits there are at most
+decimal-most : (k n : ℕ) → length (decimal k n) ≤ suc k
+unfolding decimal
+decimal-most zero n = lit≤ tt
+decimal-most (suc k) n = go (ltb n 10) (decimal-most k (n / 10))
+  where
+    go : (b : Bool) → length (decimal k (n / 10)) ≤ suc k → length (cond b ((48 + n) ∷ []) (decimal k (n / 10) ++ ((48 + n % 10) ∷ []))) ≤ suc (suc k)
+    go true h = omega arith
+    go false h = rw length-append (omega arith)
+
+pub text-most : (n : ℕ) → length (decimalText n) ≤ 20
+unfolding decimalText
+text-most n = decimal-most 19 n
 
 stored : (l : List ℕ) (i a : ℕ) → i < length l → drop i (set l i a) ≡ a ∷ drop (suc i) l
 stored l i a h = rw (set-split l i a h) (drop-at (take i l) (a ∷ drop (suc i) l) i (length-take-le i l (omega arith)))

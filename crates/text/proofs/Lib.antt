@@ -1,3 +1,3 @@
 pub mod Writing
 pub mod Hexadecimal
-mod Digits
+pub mod Digits

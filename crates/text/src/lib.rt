@@ -6,6 +6,7 @@ ghost use Prim.Native.Nat.{_+_, _*_, _≤_, _<_};
 ghost use lib.ListN.{length, drop};
 ghost use Rattle.octets.specs.Splice.{spliced};
 ghost use Rattle.text.specs.Text.{digitOf, hexText, decimalText, after};
+use numbers::Octets;
 
 // The digits of a number at the end of an array, from an offset on.
 struct Decimal {
@@ -14,31 +15,32 @@ struct Decimal {
 }
 
 // Words.
-pub fn put_words(buffer: &mut [u8], at: usize, words: &[u8]) -> usize
-    ensures { λ r. ⌜ (r ≡ after (now (buffer .entry)) at (now (words .entry))) × (now (buffer .exit) ≡ spliced (now (buffer .entry)) at (now (words .entry))) ⌝ }
+pub fn put_words(buffer: &mut [u8], at: Octets, words: &[u8]) -> Octets
+    ensures { λ r. ⌜ (r .0 ≡ after (now (buffer .entry)) (at .0) (now (words .entry))) × (now (buffer .exit) ≡ spliced (now (buffer .entry)) (at .0) (now (words .entry))) ⌝ }
 {
     if buffer.len() < words.len() {
         return at;
     }
-    if buffer.len() - words.len() < at {
+    if buffer.len() - words.len() < at.0 {
         return at;
     }
-    octets::put(buffer, at, words);
-    at + words.len()
+    octets::put(buffer, at.0, words);
+    let end = at.0 + words.len();
+    Octets(end)
 }
 
-// Words, and octets after them.
-pub fn put_octets(buffer: &mut [u8], at: usize, words: &[u8], octets: &[u8]) -> usize
-    ensures { λ r. ⌜ (r ≡ after (now (buffer .entry)) at (now (words .entry) ++ hexText (now (octets .entry)))) × (now (buffer .exit) ≡ spliced (now (buffer .entry)) at (now (words .entry) ++ hexText (now (octets .entry)))) ⌝ }
+// Words, and the hexadecimal digits of octets after them.
+pub fn put_hex(buffer: &mut [u8], at: Octets, words: &[u8], octets: &[u8]) -> Octets
+    ensures { λ r. ⌜ (r .0 ≡ after (now (buffer .entry)) (at .0) (now (words .entry) ++ hexText (now (octets .entry)))) × (now (buffer .exit) ≡ spliced (now (buffer .entry)) (at .0) (now (words .entry) ++ hexText (now (octets .entry)))) ⌝ }
 {
     if buffer.len() < words.len() {
         return at;
     }
     let room = buffer.len() - words.len();
-    if room < at {
+    if room < at.0 {
         return at;
     }
-    if (room - at) / 2 < octets.len() {
+    if (room - at.0) / 2 < octets.len() {
         return at;
     }
     let next = put_words(buffer, at, words);
@@ -46,8 +48,8 @@ pub fn put_octets(buffer: &mut [u8], at: usize, words: &[u8], octets: &[u8]) -> 
 }
 
 // Words, and a number after them.
-pub fn put_number(buffer: &mut [u8], at: usize, words: &[u8], n: u64) -> usize
-    ensures { λ r. ⌜ (r ≡ after (now (buffer .entry)) at (now (words .entry) ++ decimalText n)) × (now (buffer .exit) ≡ spliced (now (buffer .entry)) at (now (words .entry) ++ decimalText n)) ⌝ }
+pub fn put_number(buffer: &mut [u8], at: Octets, words: &[u8], n: u64) -> Octets
+    ensures { λ r. ⌜ (r .0 ≡ after (now (buffer .entry)) (at .0) (now (words .entry) ++ decimalText n)) × (now (buffer .exit) ≡ spliced (now (buffer .entry)) (at .0) (now (words .entry) ++ decimalText n)) ⌝ }
 {
     let decimal = decimal_of(n);
     let digits = decimal.digits;
@@ -56,8 +58,8 @@ pub fn put_number(buffer: &mut [u8], at: usize, words: &[u8], n: u64) -> usize
 }
 
 // Words, and other words after them.
-fn put_both(buffer: &mut [u8], at: usize, first: &[u8], second: &[u8]) -> usize
-    ensures { λ r. ⌜ (r ≡ after (now (buffer .entry)) at (now (first .entry) ++ now (second .entry))) × (now (buffer .exit) ≡ spliced (now (buffer .entry)) at (now (first .entry) ++ now (second .entry))) ⌝ }
+fn put_both(buffer: &mut [u8], at: Octets, first: &[u8], second: &[u8]) -> Octets
+    ensures { λ r. ⌜ (r .0 ≡ after (now (buffer .entry)) (at .0) (now (first .entry) ++ now (second .entry))) × (now (buffer .exit) ≡ spliced (now (buffer .entry)) (at .0) (now (first .entry) ++ now (second .entry))) ⌝ }
 {
     if buffer.len() < first.len() {
         return at;
@@ -66,7 +68,7 @@ fn put_both(buffer: &mut [u8], at: usize, first: &[u8], second: &[u8]) -> usize
     if room < second.len() {
         return at;
     }
-    if room - second.len() < at {
+    if room - second.len() < at.0 {
         return at;
     }
     let next = put_words(buffer, at, first);
@@ -74,11 +76,11 @@ fn put_both(buffer: &mut [u8], at: usize, first: &[u8], second: &[u8]) -> usize
 }
 
 // Two digits for each octet, where they fit.
-fn put_digits(buffer: &mut [u8], at: usize, octets: &[u8]) -> usize
-    requires { ⌜ at + 2 * length (now octets) ≤ length (now buffer) ⌝ }
-    ensures { λ r. ⌜ (r ≡ after (now (buffer .entry)) at (hexText (now (octets .entry)))) × (now (buffer .exit) ≡ spliced (now (buffer .entry)) at (hexText (now (octets .entry)))) ⌝ }
+fn put_digits(buffer: &mut [u8], at: Octets, octets: &[u8]) -> Octets
+    requires { ⌜ at .0 + 2 * length (now octets) ≤ length (now buffer) ⌝ }
+    ensures { λ r. ⌜ (r .0 ≡ after (now (buffer .entry)) (at .0) (hexText (now (octets .entry)))) × (now (buffer .exit) ≡ spliced (now (buffer .entry)) (at .0) (hexText (now (octets .entry)))) ⌝ }
 {
-    let mut next = at;
+    let mut next = at.0;
     let mut i = 0;
     while i < octets.len() {
         let octet = octets[i];
@@ -86,7 +88,7 @@ fn put_digits(buffer: &mut [u8], at: usize, octets: &[u8]) -> usize
         next += 2;
         i += 1;
     }
-    next
+    Octets(next)
 }
 
 // A hexadecimal digit.

@@ -1,5 +1,4 @@
 -- `frame_exports::propolisk_frame_build` meets its contract: each way out is a case of `buildOutcome`.
-use mathlib.Core.Path.{sym, _∙_}
 use borrow.Author.Needs.{needs}
 use Rattle.frame_exports.proofs.Outcomes.{build-short, build-unknown, build-framed, build-refused}
 use Rattle.frame_exports.proofs.propolisk_frame_build.Statement.{statement}
@@ -18,7 +17,7 @@ enum-told : tie.Need-enum-told
 enum-told c = search needs
 
 returns-2 : tie.Need-returns-2
-returns-2 c = build-unknown _ _ _ _ _ (c .before .before .before .if1 .left) (sym (c .before .before .command-of .ensures) ∙ c .enum-told .given .1)
+returns-2 c = build-unknown _ _ _ _ _ _ (c .before .before .command-of .ensures) (c .before .before .before .if1 .left) (c .enum-told .given .1)
 
 build-requires : tie.Need-build-requires
 build-requires c κs = search needs
@@ -39,7 +38,7 @@ returns-3 : tie.Need-returns-3
 returns-3 c =
     let b = c .before .before .before .before .before in
     let e = b .before .before .before .before .before .before .before in
-    build-framed _ _ _ _ _ _ _ _ (e .before .before .before .if1 .left) (sym (e .before .before .command-of .ensures) ∙ e .command .given .1) (b .build .ensures .0) (b .build .ensures .1) _ (c .before .answer .given .1)
+    build-framed _ _ _ _ _ _ (e .before .before .command-of .ensures) _ _ _ (e .before .before .before .if1 .left) (e .command .given .1) (b .build .ensures .0) (b .build .ensures .1) _ (c .before .answer .given .1)
 
 same-length-2 : tie.Need-same-length-2
 same-length-2 c = search needs
@@ -48,7 +47,7 @@ returns-4 : tie.Need-returns-4
 returns-4 c =
     let b = c .before .before .before .before .before .before in
     let e = b .before .before .before .before .before .before .before in
-    build-refused _ _ _ _ _ _ _ _ (e .before .before .before .if1 .left) (sym (e .before .before .command-of .ensures) ∙ e .command .given .1) (b .build .ensures .0) (b .build .ensures .1) _ _ (c .before .before .answer2 .given .1) (c .refusal-number .ensures)
+    build-refused _ _ _ _ _ _ (e .before .before .command-of .ensures) _ _ _ (e .before .before .before .if1 .left) (e .command .given .1) (b .build .ensures .0) (b .build .ensures .1) _ _ (c .before .before .answer2 .given .1) (c .refusal-number .ensures)
 
 pub propolisk-frame-build-spec : {M : Type 1} → statement M
 propolisk-frame-build-spec =

@@ -14,23 +14,23 @@ use Rattle.frame_text.proofs.put_head.Tie as tie
 put-name-requires : tie.Need-put-name-requires
 put-name-requires c κs = search needs
 
-slice-aggregate-put-octets : tie.Need-slice-aggregate-put-octets
-slice-aggregate-put-octets c = search needs
+slice-aggregate-put-hex : tie.Need-slice-aggregate-put-hex
+slice-aggregate-put-hex c = search needs
 
-slice-aggregate-put-octets-2 : tie.Need-slice-aggregate-put-octets-2
-slice-aggregate-put-octets-2 c = search needs
+slice-aggregate-put-hex-2 : tie.Need-slice-aggregate-put-hex-2
+slice-aggregate-put-hex-2 c = search needs
 
-put-octets-requires : tie.Need-put-octets-requires
-put-octets-requires c κs = search needs
+put-hex-requires : tie.Need-put-hex-requires
+put-hex-requires c κs = search needs
 
-slice-aggregate-put-octets-3 : tie.Need-slice-aggregate-put-octets-3
-slice-aggregate-put-octets-3 c = search needs
+slice-aggregate-put-hex-3 : tie.Need-slice-aggregate-put-hex-3
+slice-aggregate-put-hex-3 c = search needs
 
-slice-aggregate-put-octets-4 : tie.Need-slice-aggregate-put-octets-4
-slice-aggregate-put-octets-4 c = search needs
+slice-aggregate-put-hex-4 : tie.Need-slice-aggregate-put-hex-4
+slice-aggregate-put-hex-4 c = search needs
 
-put-octets-requires-2 : tie.Need-put-octets-requires-2
-put-octets-requires-2 c κs = search needs
+put-hex-requires-2 : tie.Need-put-hex-requires-2
+put-hex-requires-2 c κs = search needs
 
 same-length : tie.Need-same-length
 same-length c = search needs
@@ -42,19 +42,19 @@ returns c =
     let f = s .args .fields in
     let shape = shaped f _ (s .good .1 .1 .1 .0) in
     joined _ _ _ _ _ _ _ _ (rw length-append (omega (arith, name-most (s .args .command), length-hex (f .ads), shape .ads-long, length-hex (f .adp ∷ []), s .pre)))
-    (joined _ _ _ _ _ _ _ _ (omega (arith, name-most (s .args .command), length-hex (f .ads), shape .ads-long, s .pre)) (c .before .before .before .before .before .before .before .before .before .before .before .before .before .before .put-name .ensures) (c .before .before .before .before .before .before .before .before .put-octets .ensures))
-    (c .before .before .put-octets2 .ensures)
+    (joined _ _ _ _ _ _ _ _ (omega (arith, name-most (s .args .command), length-hex (f .ads), shape .ads-long, s .pre)) (c .before .before .before .before .before .before .before .before .before .before .before .before .before .before .put-name .ensures) (c .before .before .before .before .before .before .before .before .put-hex .ensures))
+    (c .before .before .put-hex2 .ensures)
 
 pub put-head-spec : {M : Type 1} → statement M
 put-head-spec =
     tie.close
     (tie.spec
     put-name-requires
-    slice-aggregate-put-octets
-    slice-aggregate-put-octets-2
-    put-octets-requires
-    slice-aggregate-put-octets-3
-    slice-aggregate-put-octets-4
-    put-octets-requires-2
+    slice-aggregate-put-hex
+    slice-aggregate-put-hex-2
+    put-hex-requires
+    slice-aggregate-put-hex-3
+    slice-aggregate-put-hex-4
+    put-hex-requires-2
     same-length
     returns)

@@ -43,7 +43,7 @@ returns c =
     let items = items-long (itemsOf command) f d long (s .pre .1) in
     let most = items-most command in
     let whole = joined _ _ (headWords command f) (itemsWords (itemsOf command) f d) _ _ _ _ (omega (arith, s .pre .0)) (c .before .before .before .before .before .before .before .put-head .ensures) (rw (c .before .before .before .items-of .ensures) at (c .before .before .put-items .ensures)) in (
-      whole .0 ∙ after-fits (now (s .args .buffer)) (s .args .at) (headWords command f ++ itemsWords (itemsOf command) f d) (rw length-append (omega (arith, s .pre .0))),
+      whole .0 ∙ after-fits (now (s .args .buffer)) (s .args .at .0) (headWords command f ++ itemsWords (itemsOf command) f d) (rw length-append (omega (arith, s .pre .0))),
       whole .1,
     )
 

@@ -9,10 +9,10 @@ use Rattle.text.proofs.put_digits.Statement.{statement}
 use Rattle.text.proofs.put_digits.Tie as tie
 
 abbrev Inv-loop : tie.InvT-loop
-Inv-loop buffer₀ at octets next₀ i₀ buffer next i = Laying buffer₀ at octets buffer next i
+Inv-loop buffer₀ octets next₀ i₀ buffer next i = Laying buffer₀ next₀ octets buffer next i
 
 abbrev μ-loop : tie.MeasureT-loop
-μ-loop buffer₀ at octets next₀ i₀ buffer next i = length octets - i
+μ-loop buffer₀ octets next₀ i₀ buffer next i = length octets - i
 
 loop-holds : tie.Need-loop-holds Inv-loop μ-loop
 loop-holds c = start _ _ _ (c .before .before .pre)

@@ -18,15 +18,15 @@ returns-2 c = unwritten _ _ _ (omega arith)
 put-requires : tie.Need-put-requires
 put-requires c κs = search needs
 
-add-result : tie.Need-add-result
-add-result c = search needs
+add-end : tie.Need-add-end
+add-end c = search needs
 
 same-length : tie.Need-same-length
 same-length c = search needs
 
 returns-3 : tie.Need-returns-3
-returns-3 c = (sym (after-fits _ _ _ (omega arith)), c .before .before .put .ensures)
+returns-3 c = (sym (after-fits _ _ _ (omega arith)), c .before .before .before .put .ensures)
 
 pub put-words-spec : {M : Type 1} → statement M
 put-words-spec =
-    tie.close (tie.spec returns sub-if2 returns-2 put-requires add-result same-length returns-3)
+    tie.close (tie.spec returns sub-if2 returns-2 put-requires add-end same-length returns-3)

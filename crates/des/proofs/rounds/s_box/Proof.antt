@@ -36,7 +36,7 @@ wide-requires c κs = search needs
 returns : tie.Need-returns
 returns c =
     let s = c .before .before .before in
-    rw (c .wide .ensures .0, s .pre .0) (boxed (s .args .j) (s .args .b) (s .pre .1) (s .pre .2))
+    rw (c .wide .ensures, s .pre .0) (boxed (s .args .j) (s .args .b) (s .pre .1) (s .pre .2))
 
 pub s-box-spec : {M : Type 1} → statement M
 s-box-spec =

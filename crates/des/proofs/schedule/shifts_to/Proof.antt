@@ -26,7 +26,7 @@ wide-requires c κs = search needs
 entry : (c : tie.After-wide) → let s = c .before .before .before .before .before in c .wide .result ≡ getD leftShifts (17 - s .args .n) 0
 entry c =
     let s = c .before .before .before .before .before in
-    c .wide .ensures .0 ∙ ap (λ t. getD t (17 - s .args .n) 0) (s .pre .0)
+    c .wide .ensures ∙ ap (λ t. getD t (17 - s .args .n) 0) (s .pre .0)
 
 sub-result : tie.Need-sub-result
 sub-result c = let n = c .before .before .before .before .before .args .n in omega (arith, entry c, shift-le (17 - n) (omega arith))
@@ -48,7 +48,7 @@ wide-requires-2 c κs = search needs
 returns-3 : tie.Need-returns-3
 returns-3 c =
     let s = c .before .before .before .before in
-    let e : c .wide2 .result ≡ getD leftShifts (s .args .n - 1) 0 = c .wide2 .ensures .0 ∙ ap (λ t. getD t (s .args .n - 1) 0) (s .pre .0) in
+    let e : c .wide2 .result ≡ getD leftShifts (s .args .n - 1) 0 = c .wide2 .ensures ∙ ap (λ t. getD t (s .args .n - 1) 0) (s .pre .0) in
     (omega (arith, shift-le (s .args .n - 1) (omega arith)), λ key. rw (c .before .before .if1 .left, e) (shift-forward key (s .args .n) (omega arith)))
 
 pub shifts-to-spec : {M : Type 1} → statement M

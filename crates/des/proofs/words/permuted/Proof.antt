@@ -41,7 +41,7 @@ entry : (c : tie.After-wide Inv-loop μ-loop) → (1 ≤ c .wide .result) × (c 
 entry c =
     let s = c .before .before .before .before .before in
     let i = c .before .before .before .loop .i in
-    omega (arith, c .wide .ensures .0, within-at (s .args .n) (s .args .table .now) (s .pre .inside) i (omega arith))
+    omega (arith, c .wide .ensures, within-at (s .args .n) (s .args .table .now) (s .pre .inside) i (omega arith))
 
 sub-acc : tie.Need-sub-acc Inv-loop μ-loop
 sub-acc c = entry c .1
@@ -57,7 +57,7 @@ more : (c : tie.After-wide Inv-loop μ-loop)
 more c =
     let a = c .before .before .before .before .before .args in
     let l = c .before .before .before .loop in
-    rw (named (a .n) (a .w) (c .wide .result) (entry c .0) (entry c .1), c .wide .ensures .0)
+    rw (named (a .n) (a .w) (c .wide .result) (entry c .0) (entry c .1), c .wide .ensures)
     (permuted-more (a .table .now) (bitsOf (a .n) (a .w)) (l .i) (l .acc) (omega arith) (areBits-bitsOf (a .n) (a .w)) (l .inv .1))
 
 add-acc : tie.Need-add-acc Inv-loop μ-loop

@@ -39,7 +39,7 @@ more : (c : tie.After-wide Inv-loop μ-loop)
 more c =
     let l = c .before .before .before .loop in
     let o = c .before .before .before .before .before .args .octets .now in
-    rw (c .wide .ensures .0) (octet-more o (l .i) (l .acc) (omega arith) (omega (arith, c .wide .ensures)) (l .inv .1))
+    rw (c .wide .ensures) (octet-more o (l .i) (l .acc) (omega arith) (c .before .shared-slice-known2 .given (l .i) .fits) (l .inv .1))
 
 add-acc : tie.Need-add-acc Inv-loop μ-loop
 add-acc c = record { fits = fits 64 (more c) (omega arith) }

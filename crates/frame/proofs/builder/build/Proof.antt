@@ -5,15 +5,16 @@ use lib.ListN.{length}
 use denote.Ref.{now}
 use borrow.Author.Tests.{leb-true}
 use borrow.Author.Needs.{needs}
+use Rattle.frame.specs.Sizes.{longestFrame}
 use Rattle.frame.specs.Layout.{within}
 use Rattle.frame.specs.Building.{built}
-use Rattle.frame.proofs.Told.{told-first, told-second, rooms-differ, amounts-differ}
+use Rattle.frame.proofs.Told.{told-first, told-second, capacities-differ, amounts-differ}
 use Rattle.frame.proofs.Widths.{within-bounds}
 use Rattle.frame.proofs.builder.build.Statement.{statement}
 use Rattle.frame.proofs.builder.build.Tie as tie
 
-check-room-requires : tie.Need-check-room-requires
-check-room-requires c κs = search needs
+check-capacity-requires : tie.Need-check-capacity-requires
+check-capacity-requires c κs = search needs
 
 enum-told : tie.Need-enum-told
 enum-told c = search needs
@@ -26,7 +27,7 @@ same-length c = search needs
 
 returns : tie.Need-returns
 unfolding built
-returns c = rw (told-second rooms-differ (leb 128 _) (c .before .before .check-room .ensures) (c .enum-told2 .given .1)) (refl, refl)
+returns c = rw (told-second capacities-differ (leb longestFrame _) (c .before .before .check-capacity .ensures) (c .enum-told2 .given .1)) (refl, refl)
 
 layout-of-requires : tie.Need-layout-of-requires
 layout-of-requires c κs = search needs
@@ -49,7 +50,7 @@ returns-2 c =
     let m = c .before .before in
     let r = m .before .before in
     rw (
-      told-first rooms-differ (leb 128 _) (r .before .before .check-room .ensures) (r .enum-told .given .1),
+      told-first capacities-differ (leb longestFrame _) (r .before .before .check-capacity .ensures) (r .enum-told .given .1),
       ← m .before .layout-of .ensures,
       told-second amounts-differ (within _ _) (m .check-amount .ensures) (c .enum-told4 .given .1),
     )
@@ -61,9 +62,9 @@ write-requires c κs =
     let r = m .before .before in
     let s = r .before .before .before .before .before .before in
     let l = m .before .layout-of in
-    let room = told-first rooms-differ (leb 128 (length (now (s .args .buffer)))) (r .before .before .check-room .ensures) (r .enum-told .given .1) in
+    let capacity = told-first capacities-differ (leb longestFrame (length (now (s .args .buffer)))) (r .before .before .check-capacity .ensures) (r .enum-told .given .1) in
     let amount = told-first amounts-differ (within (l .result) (length (now (s .args .«data»)))) (m .check-amount .ensures) (c .before .enum-told3 .given .1) in
-    (leb-true 128 _ room, rw (← l .ensures) (within-bounds (l .result) _ amount .1))
+    (leb-true longestFrame _ capacity, rw (← l .ensures) (within-bounds (l .result) _ amount .1))
 
 same-length-3 : tie.Need-same-length-3
 same-length-3 c = search needs
@@ -77,7 +78,7 @@ returns-3 c =
     rw (
       w .ensures .0,
       w .ensures .1,
-      told-first rooms-differ (leb 128 _) (r .before .before .check-room .ensures) (r .enum-told .given .1),
+      told-first capacities-differ (leb longestFrame _) (r .before .before .check-capacity .ensures) (r .enum-told .given .1),
       ← m .before .layout-of .ensures,
       told-first amounts-differ (within _ _) (m .check-amount .ensures) (c .before .before .before .before .enum-told3 .given .1),
     )
@@ -87,7 +88,7 @@ pub build-spec : {M : Type 1} → statement M
 build-spec =
     tie.close
     (tie.spec
-    check-room-requires
+    check-capacity-requires
     enum-told
     enum-told-2
     same-length

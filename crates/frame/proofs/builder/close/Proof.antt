@@ -1,4 +1,4 @@
--- `close` meets its contract: the key of the octets before end is spliced in after them, low octet first.
+-- `close` meets its contract: the check key of the octets before end is spliced in after them, low octet first.
 use mathlib.Core.Path.{refl, sym}
 use native.Mathlib.Omega.{arith}
 use lib.Seq.{length-take-le}
@@ -6,14 +6,14 @@ use borrow.Author.Needs.{needs}
 use Rattle.frame.proofs.builder.close.Statement.{statement}
 use Rattle.frame.proofs.builder.close.Tie as tie
 
-slice-reshare-prefix-key : tie.Need-slice-reshare-prefix-key
-slice-reshare-prefix-key c = search needs
+slice-reshare-prefix-check-key : tie.Need-slice-reshare-prefix-check-key
+slice-reshare-prefix-check-key c = search needs
 
-slice-aggregate-key : tie.Need-slice-aggregate-key
-slice-aggregate-key c = sym (length-take-le _ _ (omega arith))
+slice-aggregate-check-key : tie.Need-slice-aggregate-check-key
+slice-aggregate-check-key c = sym (length-take-le _ _ (omega arith))
 
-key-requires : tie.Need-key-requires
-key-requires c κs = search needs
+check-key-requires : tie.Need-check-key-requires
+check-key-requires c κs = search needs
 
 cast-low : tie.Need-cast-low
 cast-low c = search needs
@@ -36,15 +36,15 @@ same-length c = search needs
 returns : tie.Need-returns
 returns c =
     let p = c .before .before in
-    (refl, rw (p .put .ensures, p .before .before .before .key .ensures))
+    (refl, rw (p .put .ensures, p .before .before .before .check-key .ensures))
 
 pub close-spec : {M : Type 1} → statement M
 close-spec =
     tie.close
     (tie.spec
-    slice-reshare-prefix-key
-    slice-aggregate-key
-    key-requires
+    slice-reshare-prefix-check-key
+    slice-aggregate-check-key
+    check-key-requires
     cast-low
     cast-high
     slice-aggregate-put

@@ -4,6 +4,7 @@ use mathlib.Core.Path.{refl, sym}
 use native.Mathlib.Omega.{arith}
 use denote.Ref.{now}
 use borrow.Author.Needs.{needs}
+use Rattle.frame.specs.Sizes.{addressWidth, numberWidth, tabWidth}
 use Rattle.frame.specs.Content.{onWire}
 use Rattle.frame.specs.Building.{fixedOf}
 use Rattle.frame.proofs.Shape.{shaped}
@@ -27,7 +28,7 @@ put-field-requires-2 c κs =
     let s = c .before .before .before .before .before .before .before .before .before .before .before in
     let long = shaped (s .args .fields) _ (s .good .1 .1 .0) in
     let one = c .before .before .before .before .put-field in
-    let most = on-wire-most (s .args .layout .za1) (s .args .fields .za1) 8 (long .za1-long) in
+    let most = on-wire-most (s .args .layout .za1) (s .args .fields .za1) numberWidth (long .za1-long) in
     (rw (one .ensures .0) (omega arith), omega (arith, long .za2-long))
 
 slice-aggregate-put-field-3 : tie.Need-slice-aggregate-put-field-3
@@ -39,14 +40,14 @@ put-field-requires-3 c κs =
     let long = shaped (s .args .fields) _ (s .good .1 .1 .0) in
     let two = c .before .before .before .before .put-field2 in
     let one = c .before .before .before .before .before .before .before .before .before .put-field in
-    let most1 = on-wire-most (s .args .layout .za1) (s .args .fields .za1) 8 (long .za1-long) in
-    let most2 = on-wire-most (s .args .layout .za2) (s .args .fields .za2) 8 (long .za2-long) in
+    let most1 = on-wire-most (s .args .layout .za1) (s .args .fields .za1) numberWidth (long .za1-long) in
+    let most2 = on-wire-most (s .args .layout .za2) (s .args .fields .za2) numberWidth (long .za2-long) in
     (rw (two .ensures .0, one .ensures .0) (omega arith), omega arith)
 
 slice-aggregate-put-field-4 : tie.Need-slice-aggregate-put-field-4
 slice-aggregate-put-field-4 c =
     let s = c .before .before .before .before .before .before .before .before .before .before .before .before .before .before .before .before .before .before .before .before .before in
-    sym (shaped (s .args .fields) _ (s .good .1 .1 .0) .station-long)
+    sym (shaped (s .args .fields) _ (s .good .1 .1 .0) .announced-long)
 
 put-field-requires-4 : tie.Need-put-field-requires-4
 put-field-requires-4 c κs =
@@ -55,10 +56,10 @@ put-field-requires-4 c κs =
     let three = c .before .before .before .before .put-field3 in
     let two = c .before .before .before .before .before .before .before .before .before .put-field2 in
     let one = c .before .before .before .before .before .before .before .before .before .before .before .before .before .before .put-field in
-    let most1 = on-wire-most (s .args .layout .za1) (s .args .fields .za1) 8 (long .za1-long) in
-    let most2 = on-wire-most (s .args .layout .za2) (s .args .fields .za2) 8 (long .za2-long) in
-    let most3 = on-wire-most (s .args .layout .tab) (s .args .fields .tab ∷ []) 1 refl in
-    (rw (three .ensures .0, two .ensures .0, one .ensures .0) (omega arith), omega (arith, long .station-long))
+    let most1 = on-wire-most (s .args .layout .za1) (s .args .fields .za1) numberWidth (long .za1-long) in
+    let most2 = on-wire-most (s .args .layout .za2) (s .args .fields .za2) numberWidth (long .za2-long) in
+    let most3 = on-wire-most (s .args .layout .tab) (s .args .fields .tab ∷ []) tabWidth refl in
+    (rw (three .ensures .0, two .ensures .0, one .ensures .0) (omega arith), omega (arith, long .announced-long))
 
 same-length : tie.Need-same-length
 same-length c = search needs
@@ -74,10 +75,10 @@ returns c =
     let three = c .before .before .before .before .before .before .before .put-field3 in
     let two = c .before .before .before .before .before .before .before .before .before .before .before .before .put-field2 in
     let one = c .before .before .before .before .before .before .before .before .before .before .before .before .before .before .before .before .before .put-field in
-    let most1 = on-wire-most (l .za1) (f .za1) 8 (long .za1-long) in
-    let most2 = on-wire-most (l .za2) (f .za2) 8 (long .za2-long) in
-    let most3 = on-wire-most (l .tab) (f .tab ∷ []) 1 refl in
-    let most4 = on-wire-most (l .announced) (f .announced) 6 (long .station-long) in
+    let most1 = on-wire-most (l .za1) (f .za1) numberWidth (long .za1-long) in
+    let most2 = on-wire-most (l .za2) (f .za2) numberWidth (long .za2-long) in
+    let most3 = on-wire-most (l .tab) (f .tab ∷ []) tabWidth refl in
+    let most4 = on-wire-most (l .announced) (f .announced) addressWidth (long .announced-long) in
     rw (
       four .ensures .1,
       three .ensures .1,

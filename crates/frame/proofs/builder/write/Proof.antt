@@ -19,19 +19,19 @@ places-of-requires c κs = search needs
 
 add-end : tie.Need-add-end
 add-end c =
-    let p = c in
+    let p = c .before in
     let s = p .before .before .before .before in
     rw (p .places-of .ensures, p .before .layout-of .ensures) (omega (arith, limits (s .args .command), s .pre))
 
 add-n : tie.Need-add-n
 add-n c =
-    let p = c .before in
+    let p = c .before .before in
     let s = p .before .before .before .before in
     rw (p .places-of .ensures, p .before .layout-of .ensures) (omega (arith, limits (s .args .command), s .pre))
 
 cast-n : tie.Need-cast-n
 cast-n c =
-    let p = c .before in
+    let p = c .before .before in
     let s = p .before .before .before .before in
     rw (p .places-of .ensures, p .before .layout-of .ensures) (omega (arith, limits (s .args .command), s .pre))
 
@@ -54,9 +54,9 @@ part-fill-end : tie.Need-part-fill-end
 part-fill-end c =
     let f = c .before .before .put-fixed .kept .0 in
     let h = c .before .before .before .before .before .before .put-head .kept .0 in
-    let p = c .before .before .before .before .before .before .before .before .before .before in
+    let p = c .before .before .before .before .before .before .before .before .before .before .before in
     let s = p .before .before .before .before in
-    let at : p .places-of .result .content ≡ placesOf (layoutOf (s .args .command)) .content = rw (p .places-of .ensures, p .before .layout-of .ensures) in
+    let at : p .places-of .result .content .0 ≡ placesOf (layoutOf (s .args .command)) .content .0 = rw (p .places-of .ensures, p .before .layout-of .ensures) in
     omega (arith, f, h, at, limits (s .args .command), s .pre)
 
 fill-requires : tie.Need-fill-requires
@@ -67,9 +67,9 @@ close-requires c κs =
     let l = c .before .before .before .fill .kept .0 in
     let f = c .before .before .before .before .before .before .before .put-fixed .kept .0 in
     let h = c .before .before .before .before .before .before .before .before .before .before .before .put-head .kept .0 in
-    let p = c .before .before .before .before .before .before .before .before .before .before .before .before .before .before .before in
+    let p = c .before .before .before .before .before .before .before .before .before .before .before .before .before .before .before .before in
     let s = p .before .before .before .before in
-    let at : p .places-of .result .content ≡ placesOf (layoutOf (s .args .command)) .content = rw (p .places-of .ensures, p .before .layout-of .ensures) in
+    let at : p .places-of .result .content .0 ≡ placesOf (layoutOf (s .args .command)) .content .0 = rw (p .places-of .ensures, p .before .layout-of .ensures) in
     rw (same-len-mid _ _ _ _ l) (omega (arith, f, h, at, limits (s .args .command), s .pre))
 
 same-length : tie.Need-same-length
@@ -77,7 +77,7 @@ same-length c = search needs
 
 returns : tie.Need-returns
 returns c =
-    let p = c .before .before .before .before .before .before .before .before .before .before .before .before .before .before .before .before .before .before in
+    let p = c .before .before .before .before .before .before .before .before .before .before .before .before .before .before .before .before .before .before .before in
     let s = p .before .before .before .before in
     let a = s .args in
     let d = now (a .«data») in

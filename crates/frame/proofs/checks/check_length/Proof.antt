@@ -17,46 +17,46 @@ places-of-requires c κs = search needs
 
 add-fixed : tie.Need-add-fixed
 add-fixed c =
-    let p = c .before .before .before in
+    let p = c .before .before .before .before in
     rw (p .places-of .ensures, p .before .layout-of .ensures) (omega (arith, limits (p .before .before .before .args .command)))
 
 add-if1 : tie.Need-add-if1
 add-if1 c =
-    let p = c .before .before .before .before in
+    let p = c .before .before .before .before .before in
     rw (p .places-of .ensures, p .before .layout-of .ensures) (omega (arith, limits (p .before .before .before .args .command)))
 
 returns : tie.Need-returns
 returns c =
-    let p = c .before .before .before .before .before in
+    let p = c .before .before .before .before .before .before in
     let l = p .before in
     let command = l .before .before .args .command in
     let n = length (now (l .before .before .args .frame)) in
-    let at : p .places-of .result .content ≡ placesOf (layoutOf command) .content = rw (p .places-of .ensures, l .layout-of .ensures) in
+    let at : p .places-of .result .content .0 ≡ placesOf (layoutOf command) .content .0 = rw (p .places-of .ensures, l .layout-of .ensures) in
     let least : l .layout-of .result .least .0 ≡ layoutOf command .least .0 = rw (l .layout-of .ensures) in
     rw (too-short (layoutOf command) n (omega arith))
 
 add-if2 : tie.Need-add-if2
 add-if2 c =
-    let p = c .before .before .before .before .before .before in
+    let p = c .before .before .before .before .before .before .before in
     rw (p .places-of .ensures, p .before .layout-of .ensures) (omega (arith, limits (p .before .before .before .args .command)))
 
 returns-2 : tie.Need-returns-2
 returns-2 c =
-    let p = c .before .before .before .before .before .before .before in
+    let p = c .before .before .before .before .before .before .before .before in
     let l = p .before in
     let command = l .before .before .args .command in
     let n = length (now (l .before .before .args .frame)) in
-    let at : p .places-of .result .content ≡ placesOf (layoutOf command) .content = rw (p .places-of .ensures, l .layout-of .ensures) in
+    let at : p .places-of .result .content .0 ≡ placesOf (layoutOf command) .content .0 = rw (p .places-of .ensures, l .layout-of .ensures) in
     let most : l .layout-of .result .most .0 ≡ layoutOf command .most .0 = rw (l .layout-of .ensures) in
     rw (too-long (layoutOf command) n (omega arith))
 
 returns-3 : tie.Need-returns-3
 returns-3 c =
-    let p = c .before .before .before .before .before .before .before in
+    let p = c .before .before .before .before .before .before .before .before in
     let l = p .before in
     let command = l .before .before .args .command in
     let n = length (now (l .before .before .args .frame)) in
-    let at : p .places-of .result .content ≡ placesOf (layoutOf command) .content = rw (p .places-of .ensures, l .layout-of .ensures) in
+    let at : p .places-of .result .content .0 ≡ placesOf (layoutOf command) .content .0 = rw (p .places-of .ensures, l .layout-of .ensures) in
     let least : l .layout-of .result .least .0 ≡ layoutOf command .least .0 = rw (l .layout-of .ensures) in
     let most : l .layout-of .result .most .0 ≡ layoutOf command .most .0 = rw (l .layout-of .ensures) in
     rw (can-have (layoutOf command) n (omega arith) (omega arith))

@@ -2,6 +2,7 @@
 use mathlib.Core.Path.{sym}
 use lib.Dec.{eqb}
 use borrow.Author.Needs.{needs}
+use Rattle.numbers.specs.Answer.{whenGiven}
 use Rattle.frame.specs.Checks.{inspectedAs}
 use Rattle.frame.proofs.Told.{told-first, told-second, extents-differ}
 use Rattle.frame.proofs.Steps.{inspected-empty, inspected-from}
@@ -24,7 +25,7 @@ enum-told : tie.Need-enum-told
 enum-told c = search needs
 
 returns-2 : tie.Need-returns-2
-unfolding inspectedAs
+unfolding inspectedAs whenGiven
 returns-2 c =
     let k = c .before .before in
     rw (inspected-from _ (k .before .before .if1 .left), ← k .stated-by .ensures, c .enum-told .given .1)
@@ -39,7 +40,7 @@ enum-told-3 : tie.Need-enum-told-3
 enum-told-3 c = search needs
 
 returns-3 : tie.Need-returns-3
-unfolding inspectedAs
+unfolding inspectedAs whenGiven
 returns-3 c =
     let x = c .before .before in
     let k = x .before .before .before .before in
@@ -54,7 +55,7 @@ judge-requires : tie.Need-judge-requires
 judge-requires c κs = search needs
 
 returns-4 : tie.Need-returns-4
-unfolding inspectedAs
+unfolding inspectedAs whenGiven
 returns-4 c =
     let x = c .before .before .before in
     let k = x .before .before .before .before in

@@ -21,7 +21,7 @@ part-requires c κs = search needs
 returns : tie.Need-returns
 unfolding dataOf
 returns c =
-    let at = c .before .before in
+    let at = c .before .before .before in
     let short : length (now (at .before .before .before .args .frame)) - 2 ≡ 0 = omega arith in
     rw (c .part .ensures, at .places-of .ensures, at .before .layout-of .ensures, short)
 
@@ -34,7 +34,7 @@ part-requires-2 c κs = search needs
 returns-2 : tie.Need-returns-2
 unfolding dataOf
 returns-2 c =
-    let at = c .before .before in
+    let at = c .before .before .before in
     rw (c .part2 .ensures, at .places-of .ensures, at .before .layout-of .ensures)
 
 pub data-of-spec : {M : Type 1} → statement M

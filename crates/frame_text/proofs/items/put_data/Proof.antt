@@ -19,17 +19,17 @@ returns : tie.Need-returns
 unfolding dataWords
 returns c = rw (no-octets (now (c .before .before .before .before .before .before .before .before .args .«data»)) (c .before .before .before .before .before .if1 .taken)) (c .before .before .put-words .ensures)
 
-slice-aggregate-put-octets : tie.Need-slice-aggregate-put-octets
-slice-aggregate-put-octets c = search needs
+slice-aggregate-put-hex : tie.Need-slice-aggregate-put-hex
+slice-aggregate-put-hex c = search needs
 
-put-octets-requires : tie.Need-put-octets-requires
-put-octets-requires c κs = search needs
+put-hex-requires : tie.Need-put-hex-requires
+put-hex-requires c κs = search needs
 
 same-length-2 : tie.Need-same-length-2
 same-length-2 c = search needs
 
 returns-2 : tie.Need-returns-2
-returns-2 c = rw (some-octets (now (c .before .before .before .before .before .before .before .before .args .«data»)) (c .before .before .before .before .before .if1 .left)) (c .before .before .put-octets .ensures)
+returns-2 c = rw (some-octets (now (c .before .before .before .before .before .before .before .before .args .«data»)) (c .before .before .before .before .before .if1 .left)) (c .before .before .put-hex .ensures)
 
 pub put-data-spec : {M : Type 1} → statement M
 put-data-spec =
@@ -39,7 +39,7 @@ put-data-spec =
     put-words-requires
     same-length
     returns
-    slice-aggregate-put-octets
-    put-octets-requires
+    slice-aggregate-put-hex
+    put-hex-requires
     same-length-2
     returns-2)

@@ -1,7 +1,7 @@
 -- `Receiver::begin` takes an N: 1 where it is out of range, else the first octet held.
 use borrow.Author.Needs.{needs}
 use Rattle.receiver.specs.Receiving.{begun}
-use Rattle.receiver.specs.Receiver.{holding, eventOf, frameOf}
+use Rattle.receiver.specs.Receiver.{holding, answerTo, frameOf}
 use Rattle.receiver.proofs.Receiver.begin.Statement.{statement}
 use Rattle.receiver.proofs.Receiver.begin.Tie as tie
 
@@ -18,7 +18,7 @@ answer-requires : tie.Need-answer-requires
 answer-requires c κs = search needs
 
 returns : tie.Need-returns
-unfolding begun holding eventOf frameOf
+unfolding begun holding answerTo frameOf
 returns c =
     let t = c .before in
     rw (← t .before .before .stated-by .ensures, t .enum-told2 .given .1, c .answer .ensures)
@@ -30,7 +30,7 @@ answer-requires-2 : tie.Need-answer-requires-2
 answer-requires-2 c κs = search needs
 
 returns-2 : tie.Need-returns-2
-unfolding begun eventOf frameOf
+unfolding begun answerTo frameOf
 returns-2 c =
     let t = c .before .before in
     let s = t .before .before in

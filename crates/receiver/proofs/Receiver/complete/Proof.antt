@@ -5,9 +5,9 @@ use native.Mathlib.Omega.{arith}
 use lib.ListN.{length, take}
 use lib.Seq.{length-take-le}
 use borrow.Author.Needs.{needs}
-use Rattle.frame.specs.Checks.{judged}
+use Rattle.frame.specs.Checks.{answerOfVerdict, judged}
 use Rattle.receiver.specs.Receiving.{judgedOutcome}
-use Rattle.receiver.specs.Receiver.{heldWith, eventOf, frameOf}
+use Rattle.receiver.specs.Receiver.{heldWith, answerTo, frameOf}
 use Rattle.receiver.proofs.Lengths.{octets-length}
 use Rattle.receiver.proofs.Growth.{whole-length, whole-front}
 use Rattle.receiver.proofs.Receiver.complete.Statement.{statement}
@@ -48,7 +48,7 @@ answer-requires : tie.Need-answer-requires
 answer-requires c κs = search needs
 
 -- the verdict is the one on the octets held with the last one
-judged-held : (c : tie.After-judge) → c .judge .result ≡ judged (heldWith (c .before .before .before .before .before .args .self) (c .before .before .before .before .before .args .octet))
+judged-held : (c : tie.After-judge) → answerOfVerdict (c .judge .result) ≡ judged (heldWith (c .before .before .before .before .before .args .self) (c .before .before .before .before .before .args .octet))
 judged-held c =
     let w = c .before .before in
     let a = w .before .before .before in
@@ -56,14 +56,14 @@ judged-held c =
     c .judge .ensures ∙ ap judged (ap (take (n + 1)) (w .whole .ensures) ∙ whole-front n (a .args .self .octets) (a .args .octet) (within a))
 
 returns : tie.Need-returns
-unfolding judgedOutcome eventOf frameOf
+unfolding judgedOutcome answerTo frameOf
 returns c =
     let v = c .before in
     let e = v .before .before in
     rw (← judged-held (e .before), v .verdict .given .1, e .empty .ensures, e .before .before .before .whole .ensures)
 
 returns-2 : tie.Need-returns-2
-unfolding judgedOutcome eventOf frameOf
+unfolding judgedOutcome answerTo frameOf
 returns-2 c =
     let v = c .before .before in
     let e = v .before .before in

@@ -4,7 +4,7 @@ use mathlib.Core.Path.{sym, ap, _∙_}
 use native.Mathlib.Omega.{arith}
 use lib.ListN.{length, getD}
 use borrow.Author.Needs.{needs}
-use Rattle.receiver.specs.Receiver.{heldWith, given, eventOf, frameOf}
+use Rattle.receiver.specs.Receiver.{heldWith, stepped, answerTo, frameOf}
 use Rattle.receiver.proofs.Lengths.{octets-length}
 use Rattle.receiver.proofs.Growth.{grown-more, grown-whole, length-held, first-held}
 use Rattle.receiver.proofs.Receiver.extend.Statement.{statement}
@@ -32,7 +32,7 @@ complete-requires : tie.Need-complete-requires
 complete-requires c κs = omega (arith, c .before .before .before .before .pre .1)
 
 returns : tie.Need-returns
-unfolding eventOf frameOf
+unfolding answerTo frameOf
 returns c =
     let t = c .before .before in
     let a = t .before .before .before .before in
@@ -52,7 +52,7 @@ returns-2 c =
     let o = a .args .octet in
     let s = heldWith (a .args .t1) o in
     let whole : getD s 0 0 ≤ length s = rw (length-held n l o (within a), first-held n l o (within a) (a .pre .0)) (t .if1 .left) in
-    c .complete .ensures ∙ sym (ap (given (a .args .t1)) (grown-whole s whole))
+    c .complete .ensures ∙ sym (ap (stepped (a .args .t1)) (grown-whole s whole))
 
 pub extend-spec : {M : Type 1} → statement M
 extend-spec =

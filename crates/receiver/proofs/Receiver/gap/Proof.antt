@@ -5,7 +5,7 @@ use lib.ListN.{take}
 use borrow.Author.Needs.{needs}
 use borrow.Author.Tests.{not-true, not-false}
 use Rattle.receiver.specs.Receiving.{Awaiting, Skipping, Partial, onGap}
-use Rattle.receiver.specs.Receiver.{sound, eventOf, frameOf, afterGap}
+use Rattle.receiver.specs.Receiver.{sound, answerTo, frameOf, afterGap}
 use Rattle.receiver.proofs.Cases.{reception-skipping, reception-awaiting, reception-partial, sound-answered, unsound-answered}
 use Rattle.receiver.proofs.Receiver.gap.Statement.{statement}
 use Rattle.receiver.proofs.Receiver.gap.Tie as tie
@@ -32,7 +32,7 @@ answer-requires-2 : tie.Need-answer-requires-2
 answer-requires-2 c κs = search needs
 
 returns-2 : tie.Need-returns-2
-unfolding afterGap onGap eventOf frameOf
+unfolding afterGap onGap answerTo frameOf
 returns-2 c =
     let t = c .before in
     let e = t .before in
@@ -43,7 +43,7 @@ answer-requires-3 : tie.Need-answer-requires-3
 answer-requires-3 c κs = search needs
 
 returns-3 : tie.Need-returns-3
-unfolding afterGap onGap eventOf frameOf
+unfolding afterGap onGap answerTo frameOf
 returns-3 c =
     let t = c .before .before .before .before in
     let e = t .before in
@@ -54,7 +54,7 @@ answer-requires-4 : tie.Need-answer-requires-4
 answer-requires-4 c κs = search needs
 
 returns-4 : tie.Need-returns-4
-unfolding afterGap onGap eventOf frameOf
+unfolding afterGap onGap answerTo frameOf
 returns-4 c =
     let t = c .before .before .before .before in
     let e = t .before in

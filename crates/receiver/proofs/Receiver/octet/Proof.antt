@@ -7,7 +7,7 @@ use lib.ListN.{take}
 use borrow.Author.Needs.{needs}
 use borrow.Author.Tests.{not-true, not-false}
 use Rattle.receiver.specs.Receiving.{Awaiting, Skipping, Partial, onOctet}
-use Rattle.receiver.specs.Receiver.{sound, eventOf, frameOf, afterOctet}
+use Rattle.receiver.specs.Receiver.{sound, answerTo, frameOf, afterOctet}
 use Rattle.receiver.proofs.Soundness.{test-sound}
 use Rattle.receiver.proofs.Cases.{reception-skipping, reception-awaiting, reception-partial, still-skipping, sound-answered, unsound-answered}
 use Rattle.receiver.proofs.Receiver.octet.Statement.{statement}
@@ -32,7 +32,7 @@ answer-requires-2 : tie.Need-answer-requires-2
 answer-requires-2 c κs = search needs
 
 returns-2 : tie.Need-returns-2
-unfolding afterOctet onOctet eventOf frameOf
+unfolding afterOctet onOctet answerTo frameOf
 returns-2 c =
     let t = c .before in
     let r = t .before .before .before .args .self in

@@ -3,7 +3,7 @@ use mathlib.Core.Path.{refl, sym, _∙_}
 use borrow.Author.Needs.{needs}
 use borrow.Author.Tests.{not-true, not-false}
 use Rattle.receiver.specs.Receiving.{onSessionEnd}
-use Rattle.receiver.specs.Receiver.{eventOf, frameOf, receptionOf, afterSessionEnd}
+use Rattle.receiver.specs.Receiver.{answerTo, frameOf, receptionOf, afterSessionEnd}
 use Rattle.receiver.proofs.Cases.{sound-answered, unsound-answered}
 use Rattle.receiver.proofs.Receiver.session_end.Statement.{statement}
 use Rattle.receiver.proofs.Receiver.session_end.Tie as tie
@@ -27,7 +27,7 @@ answer-requires-2 : tie.Need-answer-requires-2
 answer-requires-2 c κs = search needs
 
 returns-2 : tie.Need-returns-2
-unfolding afterSessionEnd onSessionEnd eventOf frameOf
+unfolding afterSessionEnd onSessionEnd answerTo frameOf
 returns-2 c =
     let e = c .before in
     let s = e .before .before in

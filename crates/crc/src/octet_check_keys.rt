@@ -1,5 +1,5 @@
 // The check keys of the single octets 0 to 255 (IEC 62056-3-1, Annex E).
-pub const OCTET_KEYS: [u16; 256] = [
+pub const OCTET_CHECK_KEYS: [u16; 256] = [
     0x0000,
     0xC0C1,
     0xC181,

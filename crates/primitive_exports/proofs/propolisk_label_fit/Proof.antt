@@ -1,8 +1,8 @@
--- `leaf_exports::propolisk_label_fit` meets its contract: each arm stores what `label::fit` found, which is what `report` gives of it.
+-- `primitive_exports::propolisk_label_fit` meets its contract: each arm stores what `label::fit` found, which is what `report` gives of it.
 use borrow.Author.Needs.{needs}
-use Rattle.leaf_exports.specs.Report.{report}
-use Rattle.leaf_exports.proofs.propolisk_label_fit.Statement.{statement}
-use Rattle.leaf_exports.proofs.propolisk_label_fit.Tie as tie
+use Rattle.primitive_exports.specs.Report.{report}
+use Rattle.primitive_exports.proofs.propolisk_label_fit.Statement.{statement}
+use Rattle.primitive_exports.proofs.propolisk_label_fit.Tie as tie
 
 fit-requires : tie.Need-fit-requires
 fit-requires c κs = search needs

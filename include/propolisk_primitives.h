@@ -1,13 +1,19 @@
 /* For C programs: the check key of IEC 62056-3-1 Annex E, one DES block of FIPS 46-3, and fitting a label of RFC 3629 text.
  *
- * Link libleaf_exports.a (`rt staticlib leaf_exports` writes it to target/staticlib/, for x86-64 Linux). No call keeps anything between calls or
- * writes anything but what its sentence names. Buffers of one call must not overlap, and no pointer is null, also where its count is 0. */
-#ifndef PROPOLISK_LEAF_H
-#define PROPOLISK_LEAF_H
+ * Link libprimitive_exports.a (`rt staticlib primitive_exports` writes it to target/staticlib/, for x86-64 Linux). No call keeps anything between calls or
+ * writes anything but what its sentence names. Buffers of one call must not overlap, and no pointer is null, also where its count is 0.
+ *
+ * Stack, measured in octets below the caller (examples/call_stack.c): one DES block, either way, 816; the two calls on check keys 576; fit 256
+ * or less. */
+#ifndef PROPOLISK_PRIMITIVES_H
+#define PROPOLISK_PRIMITIVES_H
 
 #include <stdbool.h>
 #include <stddef.h>
 #include <stdint.h>
+
+/* Octets of stack that a call needs at most, as measured. */
+#define PROPOLISK_PRIMITIVES_STACK 1024
 
 /* The check key of the octets; a frame carries its low octet first. */
 uint16_t propolisk_crc_key(const uint8_t *octets, size_t count);

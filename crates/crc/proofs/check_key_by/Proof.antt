@@ -1,4 +1,4 @@
--- `crc::key_by` meets its contract. The loop's invariant: the register holds the key of the octets passed. The measure is what is left of the length.
+-- `crc::check_key_by` meets its contract. The loop's invariant: the register holds the key of the octets passed. The measure is what is left of the length.
 -- Assumes nothing.
 use mathlib.Core.Path.{_≡_, sym, ap, _∙_}
 use mathlib.Core.List.{[], _∷_}
@@ -9,8 +9,8 @@ use lib.ListN.{length, take, getD}
 use lib.Seq.{take-all}
 use Rattle.crc.specs.AnnexE.{checkKey}
 use Rattle.crc.proofs.CheckKey.{checkKey-nil, checkKey-take}
-use Rattle.crc.proofs.key_by.Statement.{statement}
-use Rattle.crc.proofs.key_by.Tie as tie
+use Rattle.crc.proofs.check_key_by.Statement.{statement}
+use Rattle.crc.proofs.check_key_by.Tie as tie
 
 abbrev Inv-loop : tie.InvT-loop
 Inv-loop table s register₀ i₀ register i = (i ≤ length s) × (register ≡ checkKey (take i s))
@@ -62,8 +62,8 @@ loop-again c =
 returns : tie.Need-returns Inv-loop μ-loop
 returns c = c .before .loop .inv .1 ∙ ap checkKey (take-all (c .before .loop .i) (c .before .before .args .s .now) (omega arith))
 
-pub key-by-spec : {M : Type 1} → statement M
-key-by-spec =
+pub check-key-by-spec : {M : Type 1} → statement M
+check-key-by-spec =
     tie.close
     (tie.spec
     Inv-loop

@@ -1,20 +1,21 @@
-// For C programs: the check key, one DES block, and fitting a label. include/propolisk_leaf.h declares them.
+// For C programs: the check key, one DES block, and fitting a label. include/propolisk_primitives.h declares them.
 ghost use mathlib.Core.Path.{_≡_};
 ghost use Rattle.crc.specs.AnnexE.{checkKey, divides};
 ghost use Rattle.des.specs.Des.{encipher, decipher};
 ghost use Rattle.numbers.specs.Counts.{inOctets, inCharacters};
 ghost use Rattle.label.specs.Fitting.{fitOf};
-ghost use Rattle.leaf_exports.specs.Report.{report};
+ghost use Rattle.primitive_exports.specs.Report.{report};
 use label::Fitting;
 use numbers::Characters;
 use numbers::Octets;
+use numbers::table;
 
 // The check key of the octets; its low octet is sent first.
 #[no_mangle]
 pub extern "C" fn propolisk_crc_key(octets: &[u8]) -> u16
     ensures { λ r. ⌜ r ≡ checkKey (now (octets .entry)) ⌝ }
 {
-    crc::key(octets)
+    crc::check_key(octets)
 }
 
 // The receiver's test of octets that end with their check key.
@@ -57,11 +58,11 @@ pub extern "C" fn propolisk_label_fit(
         Fitting::Kept(kept, count) => {
             *octets = kept.0;
             *characters = count.0;
-            0
+            table::NONE
         }
         Fitting::IllFormed(offset) => {
             *octets = offset.0;
-            8
+            table::ILL_FORMED
         }
     }
 }

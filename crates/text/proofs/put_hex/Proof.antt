@@ -1,11 +1,11 @@
--- `put_octets` meets its contract: the digits are laid where the words end.
+-- `put_hex` meets its contract: the digits are laid where the words end.
 use lib.ListN.{length-append}
 use Rattle.text.proofs.Writing.{unwritten, room-after, joined}
 use Rattle.text.proofs.Hexadecimal.{length-hex}
 use native.Mathlib.Omega.{arith}
 use borrow.Author.Needs.{needs}
-use Rattle.text.proofs.put_octets.Statement.{statement}
-use Rattle.text.proofs.put_octets.Tie as tie
+use Rattle.text.proofs.put_hex.Statement.{statement}
+use Rattle.text.proofs.put_hex.Tie as tie
 
 returns : tie.Need-returns
 returns c = unwritten _ _ _ (rw (length-append, length-hex) (omega arith))
@@ -32,8 +32,8 @@ returns-4 : tie.Need-returns-4
 returns-4 c =
     joined _ _ _ _ _ _ _ _ (rw length-hex (omega arith)) (c .before .before .before .before .before .before .put-words .ensures) (c .before .before .put-digits .ensures)
 
-pub put-octets-spec : {M : Type 1} → statement M
-put-octets-spec =
+pub put-hex-spec : {M : Type 1} → statement M
+put-hex-spec =
     tie.close
     (tie.spec
     returns

@@ -2,7 +2,7 @@
 
 use crate::crc;
 use crate::des;
-use crate::ffi::leaves as ours;
+use crate::ffi::primitives as ours;
 use crate::ffi::Lent;
 use crate::frame::Block;
 use crate::hex::{self, Hex};
