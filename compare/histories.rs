@@ -2,7 +2,7 @@
 
 use crate::book::{Book, Event};
 use crate::card::{Answer, Card};
-use crate::frame::BROADCAST;
+use crate::frame::{Block, BROADCAST};
 use crate::hex::{self, Hex};
 use crate::random_frames;
 use crate::random_history::{self, Setup};
@@ -74,9 +74,10 @@ pub fn taking_out(rng: &mut Rng, lists: usize) -> Result<usize, Disagreement> {
         for _ in 0..30 {
             let ads = rng.pick(&[setup.address, setup.address, BROADCAST, [1; 6]]);
             let frame = random_frames::frame(rng, ads);
-            let (octets, number) = (frame.octets().expect("DATA within its limit"), rng.field());
-            let reply = feed(&mut all, &octets, number);
-            let expected = if all.takes(&frame) { feed(&mut taken_only, &octets, number) } else { vec![] };
+            let octets = frame.octets().expect("DATA within its limit");
+            let lent: Vec<Block> = octets.iter().map(|_| rng.field()).collect();
+            let reply = feed(&mut all, &octets, &lent);
+            let expected = if all.takes(&frame) { feed(&mut taken_only, &octets, &lent) } else { vec![] };
             same(Hex(&reply), Hex(&expected), || hex::text(&octets))?;
             same(&all, &taken_only, || hex::text(&octets))?;
             frames += 1;
@@ -85,12 +86,12 @@ pub fn taking_out(rng: &mut Rng, lists: usize) -> Result<usize, Disagreement> {
     Ok(frames)
 }
 
-/// The reply to a whole frame.
-fn feed(card: &mut Card, octets: &[u8], number: [u8; 8]) -> Vec<u8> {
+/// The reply to a whole frame, with a number of its own lent with each octet.
+fn feed(card: &mut Card, octets: &[u8], lent: &[Block]) -> Vec<u8> {
     let mut buffer = [0; 128];
     let mut last = Answer { number: None, reply: 0 };
-    for octet in octets {
-        last = card.octet(*octet, &number, &mut buffer);
+    for (octet, na2) in octets.iter().zip(lent) {
+        last = card.octet(*octet, na2, &mut buffer);
     }
     buffer[..last.reply].to_vec()
 }

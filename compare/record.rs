@@ -6,7 +6,7 @@ use crate::utf8::{self, Characters, Octets};
 pub const RAW: u8 = 0;
 pub const LABEL: u8 = 1;
 
-/// Kinds and marks are plain octets, because setup must refuse those not in use (12).
+/// A kind is a plain octet, because setup must refuse those that are none (12). A mark is 0 or 1.
 #[derive(Clone, PartialEq, Debug)]
 pub struct Record {
     pub tab: u8,
@@ -36,14 +36,11 @@ impl Record {
         Ok(())
     }
 
-    /// 01, The card: known kind, limits 0 to 116, marks in use.
+    /// 01, The card: known kind, limits 0 to 116.
     fn described_well(&self) -> bool {
         (self.kind == RAW || self.kind == LABEL)
             && self.octet_limit <= Octets(116)
             && (self.kind == RAW || self.character_limit <= Characters(116))
-            && self.readable <= 1
-            && self.open_to_programming <= 1
-            && self.open_to_transfer <= 1
     }
 }
 

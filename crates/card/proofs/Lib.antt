@@ -1,11 +1,12 @@
 pub mod Shape
 pub mod Soundness
+mod Amounts
+pub mod TakenFrames
+mod Giving
+mod Receptions
 pub mod Keeping
 pub mod Reached
 pub mod Fresh
 pub mod Station
+pub mod Feeding
 pub mod TakingOut
-mod Amounts
-mod Groups
-mod Replies
-mod Receptions

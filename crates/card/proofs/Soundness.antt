@@ -15,12 +15,12 @@ module _ (c : Card) where
   sound-of : sound c ≡ true → Sound c
   unfolding sound
   sound-of h =
-      let first = and-eq-true-iff (not (broadcast (c .address))) (fitting (c .phase) && (receiver.sound (c .receiver) && records.sound (c .records))) .0 h in
-      let second = and-eq-true-iff (fitting (c .phase)) (receiver.sound (c .receiver) && records.sound (c .records)) .0 (first .1) in
+      let first = and-eq-true-iff (not (broadcast (c .identity .address))) (fitting (c .exchange .phase) && (receiver.sound (c .receiver) && records.sound (c .records))) .0 h in
+      let second = and-eq-true-iff (fitting (c .exchange .phase)) (receiver.sound (c .receiver) && records.sound (c .records)) .0 (first .1) in
       let third = and-eq-true-iff (receiver.sound (c .receiver)) (records.sound (c .records)) .0 (second .1) in
       record {
-        address = not-true (broadcast (c .address)) (first .0);
-        waiting = leb-true (waitingLength (c .phase)) 100 (second .0);
+        address = not-true (broadcast (c .identity .address)) (first .0);
+        fits = leb-true (waitingLength (c .exchange .phase)) 100 (second .0);
         receiver = receiver-laws.test-sound (c .receiver) (third .0);
         records = records-laws.sound-means (c .records) .0 (third .1);
       }
@@ -30,7 +30,7 @@ module _ (c : Card) where
   sound-test s =
       rw (
         s .address,
-        le-leb (waitingLength (c .phase)) 100 (s .waiting),
+        le-leb (waitingLength (c .exchange .phase)) 100 (s .fits),
         receiver-laws.sound-test (c .receiver) (s .receiver),
         records-laws.sound-means (c .records) .1 (s .records),
       )

@@ -1,164 +1,103 @@
--- Taking out the frames that the card doesn't take leaves the same records, wait and replies: by induction over the list, two cards that differ in
+-- Taking out the frames that the card doesn't take leaves the same records, exchange and replies: by induction over the list, two cards that differ in
 -- their receivers alone side by side.
-use Prim.Native.Nat.{ℕ, zero, suc, _≤_, _-_}
+use Prim.Native.Nat.{ℕ}
+use mathlib.Core.Logic.{_↔_}
 use mathlib.Core.Path.{_≡_, refl, sym, ap, ap₂, _∙_}
 use mathlib.Core.Bool.{Bool, true, false, cond}
-use mathlib.Core.List.{List, [], _∷_, _++_, append-nil}
-use lib.ListN.{length, replicate}
-use borrow.Author.Tests.{eq-eqb, le-leb}
+use mathlib.Core.List.{List, [], _∷_, _++_}
 use Rattle.octets.proofs.Impossible.{impossible}
 use Rattle.frame.specs.declared.codes.Command.{Command}
-use Rattle.frame.specs.declared.checks.Verdict.the-variants.{Good}
+use Rattle.numbers.specs.Answer.{given}
 use Rattle.frame.specs.Checks.{inspected}
 use Rattle.frame.specs.Content.{fieldsOf, dataOf}
-use Rattle.receiver.specs.Receiving.{Awaiting, Outcome, Silent, Complete, Course, onOctet, onOctets}
-use Rattle.receiver.specs.Receiving as receiving
+use Rattle.receiver.specs.Receiving.{Awaiting}
 use Rattle.receiver.specs.Receiver.{receptionOf}
-use Rattle.receiver.proofs.Soundness.{reception-sound, holding-reception}
-use Rattle.receiver.proofs.Follows.{octet-keeps}
-use Rattle.receiver.proofs.Frames.{endingIn, good-frame}
+use Rattle.card.specs.declared.Identity.{Identity}
 use Rattle.card.specs.declared.Card.{Card}
-use Rattle.card.specs.Parts.{Response}
-use Rattle.card.specs.Frames.{silent, onFrame}
-use Rattle.card.specs.Events.{Octet, afterStep, heardAs, heard, afterOctet, after}
-use Rattle.card.specs.TakingOut.{Sending, Usable, AllUsable, Fed, listed, fedOctets, fed, takenAs, takenOnly, Alike}
-use Rattle.card.proofs.Soundness.{sound-test}
-use Rattle.card.proofs.Keeping.{Whole, course}
-use Rattle.card.proofs.Station.{stationOf, frame-receiver, same-station, same-reply}
+use Rattle.card.specs.declared.taking.Taken.{Taken}
+use Rattle.card.specs.declared.taking.Taken.the-variants as taking
+use Rattle.card.specs.Loan.{Loan}
+use Rattle.card.specs.Parts.{Response, silent}
+use Rattle.card.specs.Taking.{takenFor}
+use Rattle.card.specs.Frames.{respond, onFrame}
+use Rattle.card.specs.Feeding.{Handed, octetsIn, lastLoan, Fed, listed, fed}
+use Rattle.card.specs.TakingOut.{GoodSending, AllGood, fedAll, isTaken, takenAs, takenOnly, Alike}
+use Rattle.card.proofs.Keeping.{Whole}
+use Rattle.card.proofs.Station.{stationOf, same-station, same-reply}
+use Rattle.card.proofs.Feeding.{frame-heard, frame-fed}
 
 -- a sound card between frames
 record Ready (c : Card) : Type 0 where
   whole : Whole c
   empty : receptionOf (c .receiver) ≡ Awaiting
 
--- what a whole good frame f with the command k comes to
-record FrameFed (c : Card) (number : List ℕ) (k : Command) (f : List ℕ) (x : Fed) : Type 0 where
+-- what a sending of the good frame f with the command k comes to
+record FrameFed (c : Card) (loan : Loan) (k : Command) (f : List ℕ) (x : Fed) : Type 0 where
   ready : Ready (x .card)
-  address : x .card .address ≡ c .address
-  station : stationOf (x .card) ≡ stationOf (onFrame c number k (fieldsOf k f) (dataOf k f) .card)
-  replies : x .replies ≡ listed (onFrame c number k (fieldsOf k f) (dataOf k f) .reply)
+  address : x .card .identity .address ≡ c .identity .address
+  station : stationOf (x .card) ≡ stationOf (onFrame c loan k (fieldsOf k f) (dataOf k f) .card)
+  replies : x .replies ≡ listed (onFrame c loan k (fieldsOf k f) (dataOf k f) .reply)
 
--- the first outcome of octets that end in a good frame, and the others
-first-more : (u : Outcome) (x : Course) (n : ℕ) (y : Outcome) → receiving.after u x ≡ endingIn (suc n) y → (u ≡ Silent) × (x ≡ endingIn n y)
-first-more u x n y e =
-    let all : u ∷ x .outcomes ≡ Silent ∷ (replicate n Silent ++ (y ∷ [])) = ap (λ (z : Course). z .outcomes) e in
-    let rest : x .outcomes ≡ replicate n Silent ++ (y ∷ []) = cc in
-    let end : x .last ≡ Awaiting = ap (λ (z : Course). z .last) e in
-    (cc, λ i. record { outcomes = rest i; last = end i })
+sending-fed : (s : List Handed) (u : GoodSending s) (c : Card) → Ready c → FrameFed c (lastLoan s) (u .command) (octetsIn s) (fed c s)
+sending-fed s u c r =
+    let k = u .command in
+    let x = frame-heard s (u .lent) k (u .good) c (r .whole) (r .empty) in
+    let y = frame-fed s (u .lent) k (u .good) c (r .whole) (r .empty) in
+    record {
+      ready = record { whole = rw (y .0) (x .whole); empty = rw (y .0) (x .empty) };
+      address = ap (λ (d : Card). d .identity .address) (y .0) ∙ ap (λ (i : Identity). i .address) (x .identity);
+      station = ap stationOf (y .0) ∙ x .station;
+      replies = y .1 ∙ ap listed (x .reply);
+    }
 
-module _ (number : List ℕ) (room : ℕ) (eight : length number ≡ 8) (enough : 128 ≤ room) where
-  octet-heard : (c : Card) (o : ℕ) → Whole c → afterOctet c o number room ≡ heard c o number
-  unfolding afterOctet
-  octet-heard c o h = rw (eq-eqb (length number) 8 eight, le-leb 128 room enough, sound-test c (h .sound))
-
-  octet-whole : (c : Card) (o : ℕ) → Whole c → Whole (afterOctet c o number room .card)
-  unfolding after
-  octet-whole c o h = course c h (Octet o number room) .whole
-
-  octet-fixed : (c : Card) (o : ℕ) → Whole c → afterOctet c o number room .card .address ≡ c .address
-  unfolding after
-  octet-fixed c o h = course c h (Octet o number room) .fixed .address
-
-  -- an octet that ends no frame
-  more : (c : Card) (o : ℕ) → Whole c → onOctet o (receptionOf (c .receiver)) .outcome ≡ Silent → afterOctet c o number room ≡ silent (afterStep (onOctet o (receptionOf (c .receiver))) c)
-  unfolding heard heardAs
-  more c o h e = octet-heard c o h ∙ rw e
-
-  -- the octet that completes a good frame
-  last : (c : Card) (o : ℕ) (k : Command) (f : List ℕ) → Whole c → onOctet o (receptionOf (c .receiver)) .outcome ≡ Complete k f
-      → afterOctet c o number room ≡ onFrame (afterStep (onOctet o (receptionOf (c .receiver))) c) number k (fieldsOf k f) (dataOf k f)
-  unfolding heard heardAs
-  last c o k f h e = octet-heard c o h ∙ rw e
-
-  next-reception : (c : Card) (o : ℕ) → Whole c → receptionOf (afterStep (onOctet o (receptionOf (c .receiver))) c .receiver) ≡ onOctet o (receptionOf (c .receiver)) .next
-  next-reception c o h =
-      let r = receptionOf (c .receiver) in
-      holding-reception (onOctet o r .next) (c .receiver) (octet-keeps o r (reception-sound (c .receiver) (h .sound .receiver) (h .long)))
-
-  octets-fed : (n : ℕ) (s : List ℕ) (k : Command) (f : List ℕ) (c : Card) → Whole c → onOctets s (receptionOf (c .receiver)) ≡ endingIn n (Complete k f) → FrameFed c number k f (fedOctets c number room s)
-  unfolding onOctets fedOctets
-  octets-fed zero [] k f c h e = impossible (let z : _≡_ {A = List Outcome} [] (Complete k f ∷ []) = ap (λ (z : Course). z .outcomes) e in cc)
-  octets-fed zero (o ∷ p ∷ s) k f c h e = impossible (let z = ap (λ (z : Course). z .outcomes) e in cc)
-  octets-fed zero (o ∷ []) k f c h e =
-      let r = receptionOf (c .receiver) in
-      let all : onOctet o r .outcome ∷ [] ≡ Complete k f ∷ [] = ap (λ (z : Course). z .outcomes) e in
-      let done = last c o k f h (cc) in
-      let next = afterStep (onOctet o r) c in
-      let came : afterOctet c o number room .card .receiver ≡ next .receiver = ap (λ (x : Response). x .card .receiver) done ∙ frame-receiver next number k (fieldsOf k f) (dataOf k f) in
-      record {
-        ready =
-            record {
-              whole = octet-whole c o h;
-              empty = ap receptionOf came ∙ next-reception c o h ∙ ap (λ (z : Course). z .last) e;
-            };
-        address = octet-fixed c o h;
-        station = ap (λ (x : Response). stationOf (x .card)) done ∙ same-station next c refl number k (fieldsOf k f) (dataOf k f);
-        replies = append-nil _ ∙ ap (λ (x : Response). listed (x .reply)) done ∙ ap listed (same-reply next c refl number k (fieldsOf k f) (dataOf k f));
-      }
-  octets-fed (suc n) [] k f c h e = impossible (let z = ap (λ (z : Course). z .outcomes) e in cc)
-  octets-fed (suc n) (o ∷ s) k f c h e =
-      let r = receptionOf (c .receiver) in
-      let next = afterStep (onOctet o r) c in
-      let went = first-more (onOctet o r .outcome) (onOctets s (onOctet o r .next)) n (Complete k f) e in
-      let quiet = more c o h (went .0) in
-      let whole : Whole next = rw quiet at (octet-whole c o h) in
-      let x = octets-fed n s k f next whole (ap (onOctets s) (next-reception c o h) ∙ went .1) in
-      rw quiet
-      (record {
-        ready = x .ready;
-        address = x .address;
-        station = x .station ∙ same-station next c refl number k (fieldsOf k f) (dataOf k f);
-        replies = x .replies ∙ ap listed (same-reply next c refl number k (fieldsOf k f) (dataOf k f));
-      })
-
-frame-fed : (s : Sending) (u : Usable s) (c : Card) → Ready c → FrameFed c (s .number) (u .command) (s .frame) (fedOctets c (s .number) (s .room) (s .frame))
-frame-fed s u c r =
-    octets-fed (s .number) (s .room) (u .number) (u .room) (length (s .frame) - 1) (s .frame) (u .command) (s .frame) c (r .whole)
-    (rw (r .empty) (good-frame (s .frame) (u .command) (u .good)))
+-- what is taken for none of the six is taken out, and nothing else
+pub not-taken-means : (t : Taken) → (isTaken t ≡ false) ↔ (t ≡ taking.None)
+not-taken-means taking.Enq = (λ e. impossible (cc), λ e. impossible (cc))
+not-taken-means taking.Rec = (λ e. impossible (cc), λ e. impossible (cc))
+not-taken-means taking.Aut = (λ e. impossible (cc), λ e. impossible (cc))
+not-taken-means taking.Trf = (λ e. impossible (cc), λ e. impossible (cc))
+not-taken-means taking.Trb = (λ e. impossible (cc), λ e. impossible (cc))
+not-taken-means taking.Ib = (λ e. impossible (cc), λ e. impossible (cc))
+not-taken-means taking.None = (λ e. refl, λ e. refl)
 
 -- a good frame that the card does not take
-passed-over : (c : Card) (number : List ℕ) (k : Command) (f : List ℕ) → takenAs (Good k) (c .address) f ≡ false → onFrame c number k (fieldsOf k f) (dataOf k f) ≡ silent c
-unfolding takenAs onFrame
-passed-over c number k f t = rw t
+frame-passed : (c : Card) (loan : Loan) (k : Command) (f : List ℕ) → takenAs (given k) (c .identity .address) f ≡ false → onFrame c loan k (fieldsOf k f) (dataOf k f) ≡ silent c
+unfolding takenAs onFrame respond
+frame-passed c loan k f t = rw (not-taken-means (takenFor (c .identity .address) k (fieldsOf k f .ads)) .0 t)
 
 record Together (a b : Fed) : Type 0 where
   station : stationOf (a .card) ≡ stationOf (b .card)
   replies : a .replies ≡ b .replies
 
-together : (own : List ℕ) (l : List Sending) → AllUsable l → (c d : Card) → c .address ≡ own → Ready c → Ready d → stationOf c ≡ stationOf d → Together (fed c l) (fed d (takenOnly own l))
-unfolding fed takenOnly
+together : (own : List ℕ) (l : List (List Handed)) → AllGood l → (c d : Card) → c .identity .address ≡ own → Ready c → Ready d → stationOf c ≡ stationOf d → Together (fedAll c l) (fedAll d (takenOnly own l))
+unfolding fedAll takenOnly
 together own [] all c d own-c ready-c ready-d e = record { station = e; replies = refl }
-together own (s ∷ l) all c d own-c ready-c ready-d e = go (takenAs (inspected (s .frame)) own (s .frame)) refl (together own l (all .1))
+together own (s ∷ l) all c d own-c ready-c ready-d e = go (takenAs (inspected (octetsIn s)) own (octetsIn s)) refl (together own l (all .1))
   where
-    go : (b : Bool) → takenAs (inspected (s .frame)) own (s .frame) ≡ b
-        → ((x y : Card) → x .address ≡ own → Ready x → Ready y → stationOf x ≡ stationOf y → Together (fed x l) (fed y (takenOnly own l)))
-        → Together (fed c (s ∷ l)) (fed d (cond b (s ∷ takenOnly own l) (takenOnly own l)))
+    go : (b : Bool) → takenAs (inspected (octetsIn s)) own (octetsIn s) ≡ b
+        → ((x y : Card) → x .identity .address ≡ own → Ready x → Ready y → stationOf x ≡ stationOf y → Together (fedAll x l) (fedAll y (takenOnly own l)))
+        → Together (fedAll c (s ∷ l)) (fedAll d (cond b (s ∷ takenOnly own l) (takenOnly own l)))
     go true t rest =
         let k = all .0 .command in
-        let x = frame-fed s (all .0) c ready-c in
-        let y = frame-fed s (all .0) d ready-d in
-        let f = fieldsOf k (s .frame) in
-        let m = dataOf k (s .frame) in
-        let both = rest _ _ (x .address ∙ own-c) (x .ready) (y .ready) (x .station ∙ same-station c d e (s .number) k f m ∙ sym (y .station)) in
-        let reply = x .replies ∙ ap listed (same-reply c d e (s .number) k f m) ∙ sym (y .replies) in
+        let loan = lastLoan s in
+        let x = sending-fed s (all .0) c ready-c in
+        let y = sending-fed s (all .0) d ready-d in
+        let f = fieldsOf k (octetsIn s) in
+        let m = dataOf k (octetsIn s) in
+        let both = rest _ _ (x .address ∙ own-c) (x .ready) (y .ready) (x .station ∙ same-station c d e loan k f m ∙ sym (y .station)) in
+        let reply = x .replies ∙ ap listed (same-reply c d e loan k f m) ∙ sym (y .replies) in
         record { station = both .station; replies = ap₂ _++_ reply (both .replies) }
     go false t rest =
         let k = all .0 .command in
-        let x = frame-fed s (all .0) c ready-c in
-        let passed = passed-over c (s .number) k (s .frame) (rw (all .0 .good, ← own-c) at t) in
+        let x = sending-fed s (all .0) c ready-c in
+        let passed = frame-passed c (lastLoan s) k (octetsIn s) (rw (all .0 .good, ← own-c) at t) in
         let both = rest _ d (x .address ∙ own-c) (x .ready) ready-d (x .station ∙ ap (λ (r : Response). stationOf (r .card)) passed ∙ e) in
-        let reply : fedOctets c (s .number) (s .room) (s .frame) .replies ≡ [] = x .replies ∙ ap (λ (r : Response). listed (r .reply)) passed in
+        let reply : fed c s .replies ≡ [] = x .replies ∙ ap (λ (r : Response). listed (r .reply)) passed in
         record { station = both .station; replies = ap₂ _++_ reply (both .replies) }
 
 -- a card between frames that is fed all of a list's frames, and one that is fed those that it takes
-pub taking-out : (c : Card) → Whole c → receptionOf (c .receiver) ≡ Awaiting → (l : List Sending) → AllUsable l → Alike (fed c l) (fed c (takenOnly (c .address) l))
+pub taking-out : (c : Card) → Whole c → receptionOf (c .receiver) ≡ Awaiting → (l : List (List Handed)) → AllGood l → Alike (fedAll c l) (fedAll c (takenOnly (c .identity .address) l))
 taking-out c h e l all =
     let ready : Ready c = record { whole = h; empty = e } in
-    let t = together (c .address) l all c c refl ready ready refl in
-    record {
-      records = ap (λ (x : Card). x .records) (t .station);
-      phase = ap (λ (x : Card). x .phase) (t .station);
-      waiting = ap (λ (x : Card). x .waiting) (t .station);
-      na2 = ap (λ (x : Card). x .na2) (t .station);
-      replies = t .replies;
-    }
+    let t = together (c .identity .address) l all c c refl ready ready refl in
+    record { records = ap (λ (x : Card). x .records) (t .station); exchange = ap (λ (x : Card). x .exchange) (t .station); replies = t .replies }

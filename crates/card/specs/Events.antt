@@ -1,83 +1,67 @@
 -- What each call on a card gives and leaves: an octet, a gap, a session end, a meter write (01, The card).
 use Prim.Native.Nat.{ℕ}
-use mathlib.Core.Path.{refl}
-use mathlib.Core.Bool.{cond, _&&_}
-use mathlib.Core.List.{List, []}
-use lib.Dec.{eqb, leb}
-use lib.ListN.{length}
-use Rattle.frame.specs.Checks.{faultNumber}
+use mathlib.Core.Bool.{cond}
+use mathlib.Core.List.{List}
+use Rattle.numbers.specs.Table.{none, brokenRule, wrongLength}
 use Rattle.frame.specs.Content.{fieldsOf, dataOf}
 use Rattle.receiver.specs.Receiving.{Awaiting, Outcome, Silent, Dropped, Complete, Step, onOctet, onGap}
-use Rattle.receiver.specs.declared.Event.{Event}
-use Rattle.receiver.specs.declared.Event.the-variants as event
-use Rattle.receiver.specs.Receiver.{receptionOf, holding, eventOf}
-use Rattle.records.specs.declared.Access.the-variants.{Meter}
+use Rattle.receiver.specs.Receiver.{receptionOf, holding}
+use Rattle.records.specs.declared.Cause.the-variants.{Meter}
 use Rattle.card.specs.declared.Card.{Card}
-use Rattle.card.specs.declared.Answer.{Answer}
-use Rattle.card.specs.declared.Answer.the-variants.{Nothing, BadFrame, BrokenRule, WrongLength}
-use Rattle.card.specs.declared.Answered.{Answered}
-use Rattle.card.specs.Numbers.{numbered}
-use Rattle.card.specs.Parts.{withReceiver, answering, Response, responding}
+use Rattle.card.specs.Loan.{Loan, usable}
+use Rattle.card.specs.Parts.{withReceiver, idle, Response, telling, silent}
 use Rattle.card.specs.Soundness.{sound}
-use Rattle.card.specs.Frames.{idle, silent, written, onFrame}
+use Rattle.card.specs.Frames.{written, onFrame}
 
--- what the host is told of a receiver's event: a bad frame's number, and nothing of a good frame
-abbrev pub eventAnswer : Event → Answer
-eventAnswer event.Nothing = Nothing
-eventAnswer (event.Bad fault) = numbered (BadFrame fault) (faultNumber fault) refl
-eventAnswer (event.Good command) = Nothing
-eventAnswer event.Refused = numbered BrokenRule 12 refl
+-- what the host is told of a receiver's outcome: a bad frame's number (1 to 5), and nothing of a good frame
+abbrev pub outcomeNumber : Outcome → ℕ
+outcomeNumber Silent = none
+outcomeNumber (Dropped number) = number
+outcomeNumber (Complete command s) = none
 
 -- the card after a step of its receiver
 abbrev pub afterStep : Step → Card → Card
 afterStep s c = withReceiver (holding (s .next) (c .receiver)) c
 
--- "Octet, gap: by Receiving": nothing; a bad frame, which is dropped with its number (1 to 5); or a good frame
-unfoldable pub heardAs : Outcome → Card → List ℕ → Response
-heardAs Silent c number = silent c
-heardAs (Dropped fault) c number = responding c (numbered (BadFrame fault) (faultNumber fault) refl) []
-heardAs (Complete command s) c number = onFrame c number command (fieldsOf command s) (dataOf command s)
+-- "Octet, gap: by Receiving": nothing; a bad frame, which is dropped with its number; or a good frame
+unfoldable pub heardAs : Outcome → Card → Loan → Response
+heardAs Silent c loan = silent c
+heardAs (Dropped number) c loan = telling c number
+heardAs (Complete command s) c loan = onFrame c loan command (fieldsOf command s) (dataOf command s)
 
-abbrev pub heardStep : Step → Card → List ℕ → Response
-heardStep s c number = heardAs (s .outcome) (afterStep s c) number
+abbrev pub heardStep : Step → Card → Loan → Response
+heardStep s c loan = heardAs (s .outcome) (afterStep s c) loan
 
-unfoldable pub heard : Card → ℕ → List ℕ → Response
-heard c o number = heardStep (onOctet o (receptionOf (c .receiver))) c number
+unfoldable pub heard : Card → ℕ → Loan → Response
+heard c o loan = heardStep (onOctet o (receptionOf (c .receiver))) c loan
 
--- 17 is tested first: "reply or frame buffer under 128 octets, .. a lent key or number not of 8 octets"; then 12.
--- "An event refused with 17 or 12 has not happened."
-unfoldable pub afterOctet : Card → ℕ → List ℕ → ℕ → Response
-afterOctet c o number room =
-    cond (eqb (length number) 8 && leb 128 room)
-    (cond (sound c) (heard c o number) (responding c (numbered BrokenRule 12 refl) []))
-    (responding c (numbered WrongLength 17 refl) [])
+-- 17 is tested first, then 12. "An event refused with 17 or 12 has not happened."
+unfoldable pub afterOctet : Card → ℕ → Loan → Response
+afterOctet c o loan = cond (usable loan) (cond (sound c) (heard c o loan) (telling c brokenRule)) (telling c wrongLength)
 
-abbrev pub gapStep : Step → Card → Answered
-gapStep s c = answering (afterStep s c) (eventAnswer (eventOf (s .outcome)))
+abbrev pub gapStep : Step → Card → Response
+gapStep s c = telling (afterStep s c) (outcomeNumber (s .outcome))
 
-unfoldable pub afterGap : Card → Answered
-afterGap c = cond (sound c) (gapStep (onGap (receptionOf (c .receiver))) c) (answering c (numbered BrokenRule 12 refl))
+unfoldable pub afterGap : Card → Response
+afterGap c = cond (sound c) (gapStep (onGap (receptionOf (c .receiver))) c) (telling c brokenRule)
 
 -- "A session end ends it too and empties the receiver, which then awaits an N."
-unfoldable pub afterSessionEnd : Card → Answered
-afterSessionEnd c = cond (sound c) (answering (idle (withReceiver (holding Awaiting (c .receiver)) c)) Nothing) (answering c (numbered BrokenRule 12 refl))
+unfoldable pub afterSessionEnd : Card → Response
+afterSessionEnd c = cond (sound c) (silent (idle (withReceiver (holding Awaiting (c .receiver)) c))) (telling c brokenRule)
 
 -- "A meter write tests 10 and then the data." "A meter write doesn't" end the wait.
-unfoldable pub afterMeterWrite : Card → ℕ → List ℕ → Answered
-afterMeterWrite c t d = cond (sound c) (written c Meter t d) (answering c (numbered BrokenRule 12 refl))
+unfoldable pub afterMeterWrite : Card → ℕ → List ℕ → Response
+afterMeterWrite c t d = cond (sound c) (written c Meter t d) (telling c brokenRule)
 
--- a call on a card with its arguments; of the reply buffer only the length bears on what the card does
+-- a call on a card with its arguments
 pub data Call : Type 0 where
-  Octet : ℕ → List ℕ → ℕ → Call
+  Octet : ℕ → Loan → Call
   Gap : Call
   SessionEnd : Call
   MeterWrite : ℕ → List ℕ → Call
 
-abbrev pub withoutReply : Answered → Response
-withoutReply a = responding (a .card) (a .answer) []
-
 unfoldable pub after : Card → Call → Response
-after c (Octet o number room) = afterOctet c o number room
-after c Gap = withoutReply (afterGap c)
-after c SessionEnd = withoutReply (afterSessionEnd c)
-after c (MeterWrite t d) = withoutReply (afterMeterWrite c t d)
+after c (Octet o loan) = afterOctet c o loan
+after c Gap = afterGap c
+after c SessionEnd = afterSessionEnd c
+after c (MeterWrite t d) = afterMeterWrite c t d

@@ -1,7 +1,10 @@
 pub mod Numbers
+pub mod Loan
 pub mod Parts
 pub mod Soundness
 pub mod Setup
+pub mod Taking
 pub mod Frames
 pub mod Events
+pub mod Feeding
 pub mod TakingOut

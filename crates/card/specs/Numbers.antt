@@ -1,21 +1,16 @@
--- The numbers of the answers (01, Numbers handed back).
+-- 01's number of every case of an answer (01, Numbers handed back).
 use Prim.Native.Nat.{ℕ}
-use mathlib.Core.Path.{_≡_}
+use Rattle.numbers.specs.Table.{none, wrongAddress, brokenRule, wrongCipher, wrongLength}
 use Rattle.frame.specs.Checks.{faultNumber}
 use Rattle.records.specs.Numbers.{refusalNumber}
 use Rattle.card.specs.declared.Answer.{Answer}
 use Rattle.card.specs.declared.Answer.the-variants.{Nothing, BadFrame, BroadcastAddress, Refused, BrokenRule, WrongCipher, WrongLength}
 
--- 0 where the table has no number
-abbrev pub numberOf : Answer → ℕ
-numberOf Nothing = 0
-numberOf (BadFrame fault) = faultNumber fault
-numberOf BroadcastAddress = 6
-numberOf (Refused refusal) = refusalNumber refusal
-numberOf BrokenRule = 12
-numberOf WrongCipher = 13
-numberOf WrongLength = 17
-
--- the answer, which has this number
-abbrev pub numbered : (a : Answer) (n : ℕ) → numberOf a ≡ n → Answer
-numbered a n e = a
+abbrev pub answerNumber : Answer → ℕ
+answerNumber Nothing = none
+answerNumber (BadFrame fault) = faultNumber fault
+answerNumber BroadcastAddress = wrongAddress
+answerNumber (Refused refusal) = refusalNumber refusal
+answerNumber BrokenRule = brokenRule
+answerNumber WrongCipher = wrongCipher
+answerNumber WrongLength = wrongLength

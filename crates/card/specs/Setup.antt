@@ -1,51 +1,49 @@
 -- Setup (01, The card).
-use Prim.Native.Nat.{ℕ}
-use mathlib.Core.Path.{refl}
+use Prim.Native.Nat.{ℕ, zero, suc}
 use mathlib.Core.Bool.{cond, _&&_}
 use mathlib.Core.List.{List, [], _∷_}
 use lib.Dec.{eqb}
 use lib.ListN.{length, replicate}
+use Rattle.numbers.specs.Table.{wrongAddress, brokenRule, wrongLength}
+use Rattle.frame.specs.Addresses.{broadcast}
 use Rattle.records.specs.declared.Records.{Records}
-use Rattle.records.specs.declared.Answer.{Answer as ContentsAnswer}
-use Rattle.records.specs.declared.Answer.the-variants as contents
-use Rattle.records.specs.Numbers.{refusalNumber}
 use Rattle.records.specs.Finding.{used}
-use Rattle.records.specs.Setup.{keepsRules, contentsAnswers, empty}
+use Rattle.records.specs.Setup.{keepsRules, contentsNumber, empty}
 use Rattle.receiver.specs.Receiver as receiver
 use Rattle.card.specs.declared.Phase.the-variants.{Idle}
 use Rattle.card.specs.declared.Card.{Card}
-use Rattle.card.specs.declared.Answer.{Answer}
-use Rattle.card.specs.declared.Answer.the-variants.{Nothing, BroadcastAddress, Refused, BrokenRule, WrongLength}
-use Rattle.card.specs.declared.Answered.{Answered}
-use Rattle.card.specs.Numbers.{numbered}
-use Rattle.card.specs.Parts.{answering}
-use Rattle.frame.specs.Addresses.{broadcast}
+use Rattle.card.specs.Parts.{Response, telling, silent}
 
 -- "Fresh, as setup leaves a card: receiver empty, no wait, first contents." The octets for a wait are free, and zero.
 abbrev pub fresh : List ℕ → List ℕ → Records → Card
 fresh address key records =
-    record { address = address; key = key; records = records; phase = Idle; waiting = replicate 100 0; na2 = replicate 8 0; receiver = receiver.fresh }
+    record {
+      identity = record { address = address; key = key };
+      records = records;
+      exchange = record { phase = Idle; content = replicate 100 0; na2 = replicate 8 0 };
+      receiver = receiver.fresh;
+    }
 
 -- What a refused setup hands back is free but for being sound: address 000000000001, key 0123456789ABCDEF, no records.
 abbrev pub bare : Card
 bare = fresh (0 ∷ 0 ∷ 0 ∷ 0 ∷ 0 ∷ 1 ∷ []) (0x01 ∷ 0x23 ∷ 0x45 ∷ 0x67 ∷ 0x89 ∷ 0xAB ∷ 0xCD ∷ 0xEF ∷ []) empty
 
-abbrev pub refusedSetup : Answer → Answered
-refusedSetup answer = answering bare answer
+abbrev pub refusedSetup : ℕ → Response
+refusedSetup n = telling bare n
 
 -- "then each content in turn by the rule below" (7, 8, 9)
-unfoldable pub admittedWith : ContentsAnswer → Card → Answered
-admittedWith contents.Accepted c = answering c Nothing
-admittedWith (contents.Refused refusal) c = refusedSetup (numbered (Refused refusal) (refusalNumber refusal) refl)
+unfoldable pub admittedWith : ℕ → Card → Response
+admittedWith zero c = silent c
+admittedWith (suc n) c = refusedSetup (suc n)
 
 -- "Setup checks: address is not broadcast (6); at most 32 records, no TAB twice, known kinds, limits in range (12); then each content in turn"
-unfoldable pub admitted : List ℕ → List ℕ → Records → Answered
+unfoldable pub admitted : List ℕ → List ℕ → Records → Response
 admitted address key records =
-    cond (broadcast address) (refusedSetup (numbered BroadcastAddress 6 refl))
-    (cond (keepsRules records) (admittedWith (contentsAnswers (used records)) (fresh address key records))
-    (refusedSetup (numbered BrokenRule 12 refl)))
+    cond (broadcast address) (refusedSetup wrongAddress)
+    (cond (keepsRules records) (admittedWith (contentsNumber (used records)) (fresh address key records))
+    (refusedSetup brokenRule))
 
 -- 17 is tested first: "a lent key or number not of 8 octets, an address not of 6"
-unfoldable pub afterSetup : List ℕ → List ℕ → Records → Answered
+unfoldable pub afterSetup : List ℕ → List ℕ → Records → Response
 afterSetup address key records =
-    cond (eqb (length address) 6 && eqb (length key) 8) (admitted address key records) (refusedSetup (numbered WrongLength 17 refl))
+    cond (eqb (length address) 6 && eqb (length key) 8) (admitted address key records) (refusedSetup wrongLength)

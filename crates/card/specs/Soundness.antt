@@ -22,11 +22,12 @@ fitting p = leb (waitingLength p) 100
 -- "a card .. that breaks a setup rule, holds a length over its limit or a state mark not in use is refused with 12 ..; so is a partly received
 -- frame whose N answer 1 would refuse, or with as many octets as its N states or more." Every state mark of a card by value is in use by its type.
 unfoldable pub sound : Card → Bool
-sound c = not (broadcast (c .address)) && (fitting (c .phase) && (receiver.sound (c .receiver) && records.sound (c .records)))
+sound c =
+    not (broadcast (c .identity .address)) && (fitting (c .exchange .phase) && (receiver.sound (c .receiver) && records.sound (c .records)))
 
 -- the same rules one by one
 pub record Sound (c : Card) : Type 0 where
-  pub address : broadcast (c .address) ≡ false
-  pub waiting : waitingLength (c .phase) ≤ 100
+  pub address : broadcast (c .identity .address) ≡ false
+  pub fits : waitingLength (c .exchange .phase) ≤ 100
   pub receiver : receiver.Sound (c .receiver)
   pub records : records.Sound (c .records)

@@ -2,26 +2,28 @@
 ghost use mathlib.Core.Path.{_≡_};
 ghost use Prim.Native.Nat.{_≤_};
 ghost use lib.ListN.{length, getD, take};
-ghost use Rattle.frame.specs.declared.checks.Verdict.the-variants.{Good};
+ghost use Rattle.numbers.specs.Answer.{given, numberOf};
 ghost use Rattle.frame.specs.Checks.{inspected};
 ghost use Rattle.frame.specs.Content.{fieldsOf, dataOf};
-ghost use Rattle.card.specs.Parts.{Gives};
+ghost use Rattle.receiver.specs.Receiver.{answerOfEvent};
+ghost use Rattle.card.specs.Numbers.{answerNumber};
+ghost use Rattle.card.specs.Loan.{lending};
+ghost use Rattle.card.specs.Parts.{Tells, Gives};
 ghost use Rattle.card.specs.Soundness.{Sound};
 ghost use Rattle.card.specs.Frames.{onFrame};
-ghost use Rattle.card.specs.Events.{eventAnswer, heard, afterOctet, afterGap, afterSessionEnd, afterMeterWrite};
+ghost use Rattle.card.specs.Events.{heard, afterOctet, afterGap, afterSessionEnd, afterMeterWrite};
 use crate::Answer;
 use crate::Answered;
 use crate::Card;
-use crate::Phase;
 use crate::Stepped;
 use crate::frames::Lent;
 use frame::Command;
 use receiver::Event;
-use records::Access;
+use records::Cause;
 
 // What the host is told of a receiver's event.
 fn event_answer(event: Event) -> Answer
-    ensures { λ r. ⌜ r ≡ eventAnswer event ⌝ }
+    ensures { λ r. ⌜ answerNumber r ≡ numberOf (answerOfEvent event) ⌝ }
 {
     match event {
         Event::Nothing => Answer::Nothing,
@@ -40,8 +42,8 @@ impl Card {
         frame: [u8; 128],
         reply: &mut [u8],
     ) -> Stepped
-        requires { ⌜ (Sound self) × ((getD frame 0 0 ≤ 128) × ((inspected (take (getD frame 0 0) frame) ≡ Good command) × (128 ≤ length (now reply)))) ⌝ }
-        ensures { λ r. ⌜ Gives (onFrame self (lent .number) command (fieldsOf command (take (getD frame 0 0) frame)) (dataOf command (take (getD frame 0 0) frame))) (now (reply .entry)) (now (reply .exit)) r ⌝ }
+        requires { ⌜ (Sound self) × ((getD frame 0 0 ≤ 128) × ((inspected (take (getD frame 0 0) frame) ≡ given command) × (128 ≤ length (now reply)))) ⌝ }
+        ensures { λ r. ⌜ Gives (onFrame self (lending (lent .na2) (now (reply .entry))) command (fieldsOf command (take (getD frame 0 0) frame)) (dataOf command (take (getD frame 0 0) frame))) (now (reply .entry)) (now (reply .exit)) r ⌝ }
     {
         let end = frame[0] as usize;
         let octets = &frame[..end];
@@ -53,7 +55,7 @@ impl Card {
     // One octet more for the receiver, and what the card does with a frame that it completes.
     fn heard(self, octet: u8, lent: Lent, reply: &mut [u8]) -> Stepped
         requires { ⌜ (Sound self) × (128 ≤ length (now reply)) ⌝ }
-        ensures { λ r. ⌜ Gives (heard self octet (lent .number)) (now (reply .entry)) (now (reply .exit)) r ⌝ }
+        ensures { λ r. ⌜ Gives (heard self octet (lending (lent .na2) (now (reply .entry)))) (now (reply .entry)) (now (reply .exit)) r ⌝ }
     {
         let receiver = self.receiver;
         let received = receiver.octet(octet);
@@ -62,62 +64,62 @@ impl Card {
         let frame = received.frame;
         let event = received.event;
         let Event::Good(command) = event else {
-            return card.unanswered(event_answer(event));
+            return card.unreplied(event_answer(event));
         };
         card.heard_frame(lent, command, frame, reply)
     }
 
-    pub fn octet(self, octet: u8, number: &[u8], reply: &mut [u8]) -> Stepped
-        ensures { λ r. ⌜ Gives (afterOctet self octet (now (number .entry)) (length (now (reply .entry)))) (now (reply .entry)) (now (reply .exit)) r ⌝ }
+    pub fn octet(self, octet: u8, na2: &[u8], reply: &mut [u8]) -> Stepped
+        ensures { λ r. ⌜ Gives (afterOctet self octet (lending (now (na2 .entry)) (now (reply .entry)))) (now (reply .entry)) (now (reply .exit)) r ⌝ }
     {
-        if number.len() != 8 {
-            return self.unanswered(Answer::WrongLength);
+        if na2.len() != 8 {
+            return self.unreplied(Answer::WrongLength);
         }
         if reply.len() < 128 {
-            return self.unanswered(Answer::WrongLength);
+            return self.unreplied(Answer::WrongLength);
         }
         if !self.sound() {
-            return self.unanswered(Answer::BrokenRule);
+            return self.unreplied(Answer::BrokenRule);
         }
         let lent = Lent {
-            number: octets::eight(number),
+            na2: octets::eight(na2),
         };
         self.heard(octet, lent, reply)
     }
 
     pub fn gap(self) -> Answered
-        ensures { λ r. ⌜ r ≡ afterGap self ⌝ }
+        ensures { λ r. ⌜ Tells (afterGap self) r ⌝ }
     {
         if !self.sound() {
-            return self.answering(Answer::BrokenRule);
+            return self.answered(Answer::BrokenRule);
         }
         let receiver = self.receiver;
         let received = receiver.gap();
         let next = received.receiver;
         let card = self.with_receiver(next);
         let event = received.event;
-        card.answering(event_answer(event))
+        card.answered(event_answer(event))
     }
 
     pub fn session_end(self) -> Answered
-        ensures { λ r. ⌜ r ≡ afterSessionEnd self ⌝ }
+        ensures { λ r. ⌜ Tells (afterSessionEnd self) r ⌝ }
     {
         if !self.sound() {
-            return self.answering(Answer::BrokenRule);
+            return self.answered(Answer::BrokenRule);
         }
         let receiver = self.receiver;
         let received = receiver.session_end();
         let next = received.receiver;
-        let card = self.in_phase(Phase::Idle);
-        card.with_receiver(next).answering(Answer::Nothing)
+        let card = self.idle();
+        card.with_receiver(next).answered(Answer::Nothing)
     }
 
     pub fn meter_write(self, tab: u8, data: &[u8]) -> Answered
-        ensures { λ r. ⌜ r ≡ afterMeterWrite self tab (now («data» .entry)) ⌝ }
+        ensures { λ r. ⌜ Tells (afterMeterWrite self tab (now («data» .entry))) r ⌝ }
     {
         if !self.sound() {
-            return self.answering(Answer::BrokenRule);
+            return self.answered(Answer::BrokenRule);
         }
-        self.written(Access::Meter, tab, data)
+        self.written(Cause::Meter, tab, data)
     }
 }

@@ -1,99 +1,38 @@
 // What a card does with a whole good frame (01, The card).
 ghost use mathlib.Core.Path.{_≡_};
 ghost use mathlib.Core.Bool.{true};
-ghost use mathlib.Core.List.{[]};
 ghost use Prim.Native.Nat.{_≤_};
 ghost use lib.ListN.{length};
+ghost use Rattle.frame.specs.declared.codes.Command.the-variants.{Rec};
 ghost use Rattle.frame.specs.Layout.{layoutOf, within};
-ghost use Rattle.frame.specs.Building.{frameOctets, Sends};
-ghost use Rattle.records.specs.Judging.{contents};
+ghost use Rattle.records.specs.Numbers.{answerNumber as writeNumber};
+ghost use Rattle.card.specs.Numbers.{answerNumber};
 ghost use Rattle.card.specs.Soundness.{Sound};
-ghost use Rattle.frame.specs.declared.codes.Command.the-variants.{Dat, Rec};
-ghost use Rattle.card.specs.Parts.{Gives, stepped};
-ghost use Rattle.card.specs.Frames.{taken, writeAnswer, acknowledgement, written, settled, waitingFor, echo, authentic, onEnq, onRec, onAut, onTrf, onTrb, onIb, onFrame};
+ghost use Rattle.card.specs.Loan.{lending};
+ghost use Rattle.card.specs.Parts.{Tells, Gives};
+ghost use Rattle.card.specs.Frames.{written, acknowledged, opened, authentic, onEnq, onRec, onAut, onTrf, onTrb, onIb, onFrame};
 use crate::Answer;
 use crate::Answered;
 use crate::Card;
+use crate::Exchange;
 use crate::Phase;
 use crate::Stepped;
-use crate::sound::broadcast;
-use frame::Built;
+use crate::replies::acknowledgement;
+use crate::replies::echo;
+use crate::replies::send;
+use crate::replies::send_bare;
+use crate::replies::send_record;
+use crate::taking::Taken;
+use crate::taking::taken_for;
 use frame::Command;
 use frame::Fields;
 use numbers::Octets;
-use records::Access;
+use records::Cause;
 use records::Found;
-use records::Record;
 
-// What the host lends with an octet: NA2, should the octet complete a REC.
+// What the host lends with an octet besides the reply buffer: NA2, should the octet complete a REC.
 pub(crate) struct Lent {
-    pub(crate) number: [u8; 8],
-}
-
-// A frame over the front of a buffer that holds it, and its length.
-fn send(reply: &mut [u8], command: Command, fields: Fields, data: &[u8]) -> Octets
-    requires { ⌜ (128 ≤ length (now reply)) × (within (layoutOf command) (length (now «data»)) ≡ true) ⌝ }
-    ensures { λ r. ⌜ Sends (frameOctets command fields (now («data» .entry))) (now (reply .entry)) (now (reply .exit)) r ⌝ }
-{
-    let built = frame::build(reply, command, fields, data);
-    match built {
-        Built::Frame(octets) => octets,
-        Built::Refused(_) => Octets(0),
-    }
-}
-
-// A frame without DATA.
-fn send_bare(reply: &mut [u8], command: Command, fields: Fields) -> Octets
-    requires { ⌜ (128 ≤ length (now reply)) × (within (layoutOf command) 0 ≡ true) ⌝ }
-    ensures { λ r. ⌜ Sends (frameOctets command fields []) (now (reply .entry)) (now (reply .exit)) r ⌝ }
-{
-    send(reply, command, fields, &[])
-}
-
-// DAT with the contents of a record.
-fn send_record(reply: &mut [u8], fields: Fields, stored: Record) -> Octets
-    requires { ⌜ (128 ≤ length (now reply)) × (stored .length .0 ≤ 116) ⌝ }
-    ensures { λ r. ⌜ Sends (frameOctets Dat fields (contents stored)) (now (reply .entry)) (now (reply .exit)) r ⌝ }
-{
-    let storage = stored.storage;
-    let length = stored.length;
-    let end = length.0;
-    send(reply, Command::Dat, fields, &storage[..end])
-}
-
-// The acknowledgement of a write that was granted, or DRJ.
-fn acknowledgement(answer: Answer, granted: Command) -> Command
-    ensures { λ r. ⌜ r ≡ acknowledgement answer granted ⌝ }
-{
-    if let Answer::Nothing = answer {
-        granted
-    } else {
-        Command::Drj
-    }
-}
-
-// Whether a card with this address takes a good frame with this command and ADS.
-fn taken(own: [u8; 6], command: Command, ads: [u8; 6]) -> bool
-    ensures { λ r. ⌜ r ≡ taken own command ads ⌝ }
-{
-    match command {
-        Command::Enq | Command::Rec | Command::Aut | Command::Trf => octets::equal(&ads, &own),
-        Command::Trb | Command::Ib => broadcast(ads),
-        _ => false,
-    }
-}
-
-// ECH's fields: NA1 enciphered under the key, and NA2.
-fn echo(key: [u8; 8], lent: Lent, fields: Fields) -> Fields
-    ensures { λ r. ⌜ r ≡ echo key (lent .number) fields ⌝ }
-{
-    let na1 = fields.za1;
-    let number = lent.number;
-    let na1k = des::encipher(key, na1);
-    let mut next = fields;
-    next.za1 = na1k;
-    next.za2 = number;
-    next
+    pub(crate) na2: [u8; 8],
 }
 
 // Whether an AUT comes from the primary that sent the REC and carries NA2 enciphered under the key.
@@ -110,7 +49,7 @@ fn authentic(key: [u8; 8], na2: [u8; 8], adp: u8, fields: Fields) -> bool
 
 // What the host is told of a write, or of the contents given at setup.
 pub(crate) fn write_answer(answer: records::Answer) -> Answer
-    ensures { λ r. ⌜ r ≡ writeAnswer answer ⌝ }
+    ensures { λ r. ⌜ answerNumber r ≡ writeNumber answer ⌝ }
 {
     match answer {
         records::Answer::Accepted => Answer::Nothing,
@@ -118,22 +57,43 @@ pub(crate) fn write_answer(answer: records::Answer) -> Answer
     }
 }
 
+impl Exchange {
+    // The exchange that a REC opens.
+    fn opened(self, lent: Lent, fields: Fields, data: &[u8]) -> Exchange
+        requires { ⌜ within (layoutOf Rec) (length (now «data»)) ≡ true ⌝ }
+        ensures { λ r. ⌜ r ≡ opened (lent .na2) fields (now («data» .entry)) self ⌝ }
+    {
+        let mut content = self.content;
+        octets::put(&mut content, 0, data);
+        let fresh = lent.na2;
+        Exchange {
+            phase: Phase::Waiting {
+                adp: fields.adp,
+                tab: fields.tab,
+                length: Octets(data.len()),
+            },
+            content: content,
+            na2: fresh,
+        }
+    }
+}
+
 impl Card {
     // A write, granted or refused.
-    pub(crate) fn written(self, access: Access, tab: u8, data: &[u8]) -> Answered
-        ensures { λ r. ⌜ r ≡ written self access tab (now («data» .entry)) ⌝ }
+    pub(crate) fn written(self, cause: Cause, tab: u8, data: &[u8]) -> Answered
+        ensures { λ r. ⌜ Tells (written self cause tab (now («data» .entry))) r ⌝ }
     {
         let records = self.records;
-        let done = records.write(access, tab, data);
+        let done = records.write(cause, tab, data);
         let next = done.records;
         let answer = done.answer;
-        self.with_records(next).answering(write_answer(answer))
+        self.with_records(next).answered(write_answer(answer))
     }
 
     // A write with its reply: the acknowledgement, or DRJ.
-    fn settled(
+    fn acknowledged(
         self,
-        access: Access,
+        cause: Cause,
         tab: u8,
         data: &[u8],
         granted: Command,
@@ -141,9 +101,9 @@ impl Card {
         reply: &mut [u8],
     ) -> Stepped
         requires { ⌜ (128 ≤ length (now reply)) × (within (layoutOf granted) 0 ≡ true) ⌝ }
-        ensures { λ r. ⌜ Gives (settled self access tab (now («data» .entry)) granted fields) (now (reply .entry)) (now (reply .exit)) r ⌝ }
+        ensures { λ r. ⌜ Gives (acknowledged self cause tab (now («data» .entry)) granted fields) (now (reply .entry)) (now (reply .exit)) r ⌝ }
     {
-        let done = self.written(access, tab, data);
+        let done = self.written(cause, tab, data);
         let card = done.card;
         let answer = done.answer;
         let sent = send_bare(reply, acknowledgement(answer, granted), fields);
@@ -159,7 +119,7 @@ impl Card {
         requires { ⌜ (Sound self) × (128 ≤ length (now reply)) ⌝ }
         ensures { λ r. ⌜ Gives (onEnq self fields) (now (reply .entry)) (now (reply .exit)) r ⌝ }
     {
-        let card = self.in_phase(Phase::Idle);
+        let card = self.idle();
         let records = self.records;
         let found = records.find_readable(fields.tab);
         match found {
@@ -183,32 +143,17 @@ impl Card {
         }
     }
 
-    // The card with an exchange that waits.
-    fn waiting_for(self, lent: Lent, fields: Fields, data: &[u8]) -> Card
-        requires { ⌜ within (layoutOf Rec) (length (now «data»)) ≡ true ⌝ }
-        ensures { λ r. ⌜ r ≡ waitingFor self (lent .number) fields (now («data» .entry)) ⌝ }
-    {
-        let mut waiting = self.waiting;
-        octets::put(&mut waiting, 0, data);
-        let mut card = self.in_phase(Phase::Waiting {
-            adp: fields.adp,
-            tab: fields.tab,
-            length: Octets(data.len()),
-        });
-        let number = lent.number;
-        card.waiting = waiting;
-        card.na2 = number;
-        card
-    }
-
     // REC: the reply is ECH, and the exchange now waits. Its data is not judged yet.
     fn on_rec(self, lent: Lent, fields: Fields, data: &[u8], reply: &mut [u8]) -> Stepped
         requires { ⌜ (within (layoutOf Rec) (length (now «data»)) ≡ true) × (128 ≤ length (now reply)) ⌝ }
-        ensures { λ r. ⌜ Gives (onRec self (lent .number) fields (now («data» .entry))) (now (reply .entry)) (now (reply .exit)) r ⌝ }
+        ensures { λ r. ⌜ Gives (onRec self (lending (lent .na2) (now (reply .entry))) fields (now («data» .entry))) (now (reply .entry)) (now (reply .exit)) r ⌝ }
     {
-        let card = self.waiting_for(lent, fields, data);
-        let key = self.key;
-        let sent = send(reply, Command::Ech, echo(key, lent, fields), data);
+        let exchange = self.exchange;
+        let card = self.with_exchange(exchange.opened(lent, fields, data));
+        let identity = self.identity;
+        let key = identity.key;
+        let na2 = lent.na2;
+        let sent = send(reply, Command::Ech, echo(key, na2, fields), data);
         Stepped {
             card: card,
             answer: Answer::Nothing,
@@ -221,13 +166,15 @@ impl Card {
         requires { ⌜ (Sound self) × (128 ≤ length (now reply)) ⌝ }
         ensures { λ r. ⌜ Gives (onAut self fields) (now (reply .entry)) (now (reply .exit)) r ⌝ }
     {
-        let phase = self.phase;
+        let exchange = self.exchange;
+        let phase = exchange.phase;
         let Phase::Waiting { adp, tab, length } = phase else {
-            return self.unanswered(Answer::Nothing);
+            return self.unreplied(Answer::Nothing);
         };
-        let card = self.in_phase(Phase::Idle);
-        let key = self.key;
-        let na2 = self.na2;
+        let card = self.idle();
+        let identity = self.identity;
+        let key = identity.key;
+        let na2 = exchange.na2;
         if !authentic(key, na2, adp, fields) {
             let sent = send_bare(reply, Command::Arj, fields);
             return Stepped {
@@ -236,12 +183,12 @@ impl Card {
                 reply: sent,
             };
         }
-        let waiting = self.waiting;
+        let content = exchange.content;
         let end = length.0;
-        card.settled(
-            Access::Programming,
+        card.acknowledged(
+            Cause::Programmed(adp),
             tab,
-            &waiting[..end],
+            &content[..end],
             Command::Eos,
             fields,
             reply,
@@ -253,9 +200,9 @@ impl Card {
         requires { ⌜ 128 ≤ length (now reply) ⌝ }
         ensures { λ r. ⌜ Gives (onTrf self fields (now («data» .entry))) (now (reply .entry)) (now (reply .exit)) r ⌝ }
     {
-        let card = self.in_phase(Phase::Idle);
-        card.settled(
-            Access::Transfer,
+        let card = self.idle();
+        card.acknowledged(
+            Cause::Transferred(fields.adp),
             fields.tab,
             data,
             Command::Tra,
@@ -265,25 +212,14 @@ impl Card {
     }
 
     // TRB: the wait is over; the data is written or dropped, without a reply.
-    fn on_trb(self, fields: Fields, data: &[u8]) -> Stepped
-        ensures { λ r. ⌜ r ≡ stepped (onTrb self fields (now («data» .entry))) ⌝ }
+    fn on_trb(self, fields: Fields, data: &[u8]) -> Answered
+        ensures { λ r. ⌜ Tells (onTrb self fields (now («data» .entry))) r ⌝ }
     {
-        let card = self.in_phase(Phase::Idle);
-        let done = card.written(Access::Transfer, fields.tab, data);
-        let next = done.card;
-        let answer = done.answer;
-        next.unanswered(answer)
+        let card = self.idle();
+        card.written(Cause::Broadcast(fields.adp), fields.tab, data)
     }
 
-    // IB: the wait is over.
-    fn on_ib(self) -> Stepped
-        ensures { λ r. ⌜ r ≡ stepped (onIb self) ⌝ }
-    {
-        let card = self.in_phase(Phase::Idle);
-        card.unanswered(Answer::Nothing)
-    }
-
-    // A good frame that the card does not take gets no reply and changes nothing.
+    // What the card does with a good frame, by what it takes it for.
     pub(crate) fn on_frame(
         self,
         lent: Lent,
@@ -293,21 +229,25 @@ impl Card {
         reply: &mut [u8],
     ) -> Stepped
         requires { ⌜ (Sound self) × ((within (layoutOf command) (length (now «data»)) ≡ true) × (128 ≤ length (now reply))) ⌝ }
-        ensures { λ r. ⌜ Gives (onFrame self (lent .number) command fields (now («data» .entry))) (now (reply .entry)) (now (reply .exit)) r ⌝ }
+        ensures { λ r. ⌜ Gives (onFrame self (lending (lent .na2) (now (reply .entry))) command fields (now («data» .entry))) (now (reply .entry)) (now (reply .exit)) r ⌝ }
     {
-        let own = self.address;
+        let identity = self.identity;
+        let own = identity.address;
         let ads = fields.ads;
-        if !taken(own, command, ads) {
-            return self.unanswered(Answer::Nothing);
-        }
-        match command {
-            Command::Enq => self.on_enq(fields, reply),
-            Command::Rec => self.on_rec(lent, fields, data, reply),
-            Command::Aut => self.on_aut(fields, reply),
-            Command::Trf => self.on_trf(fields, data, reply),
-            Command::Trb => self.on_trb(fields, data),
-            Command::Ib => self.on_ib(),
-            _ => self.unanswered(Answer::Nothing),
+        let taken = taken_for(own, command, ads);
+        match taken {
+            Taken::Enq => self.on_enq(fields, reply),
+            Taken::Rec => self.on_rec(lent, fields, data, reply),
+            Taken::Aut => self.on_aut(fields, reply),
+            Taken::Trf => self.on_trf(fields, data, reply),
+            Taken::Trb => {
+                let done = self.on_trb(fields, data);
+                let card = done.card;
+                let answer = done.answer;
+                card.unreplied(answer)
+            }
+            Taken::Ib => self.idle().unreplied(Answer::Nothing),
+            Taken::None => self.unreplied(Answer::Nothing),
         }
     }
 }

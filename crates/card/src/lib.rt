@@ -1,19 +1,28 @@
-// The secondary station by value: its records, the exchange that waits, and its receiver (01, The card).
+// The secondary station by value: its identity, its records, its exchange, and its receiver (01, The card).
 ghost use mathlib.Core.Path.{_≡_};
-ghost use Rattle.card.specs.Numbers.{numberOf};
+ghost use Rattle.card.specs.Numbers.{answerNumber};
 
 mod events;
 mod frames;
 mod parts;
+mod replies;
 mod setup;
 mod sound;
+mod taking;
 
 use frame::Fault;
 use frame::checks::fault_number;
 use numbers::Octets;
+use numbers::table;
 use receiver::Receiver;
 use records::Records;
 use records::Refusal;
+
+// What setup gives a card besides its records.
+pub struct Identity {
+    pub address: [u8; 6],
+    pub key: [u8; 8],
+}
 
 // Whether an exchange waits: one does after a REC, with that frame's ADP and TAB and as many octets of DATA.
 pub enum Phase {
@@ -21,15 +30,18 @@ pub enum Phase {
     Waiting { adp: u8, tab: u8, length: Octets },
 }
 
-// A card. The DATA of the exchange that waits are the first octets of waiting, and na2 is the number lent with its REC.
-// The other octets of waiting, and all of both while no exchange waits, are free.
-pub struct Card {
-    pub address: [u8; 6],
-    pub key: [u8; 8],
-    pub records: Records,
+// The DATA that waits are the first octets of content, and na2 is the number lent with the REC.
+// The other octets of content, and all of both while no exchange waits, are free.
+pub struct Exchange {
     pub phase: Phase,
-    pub waiting: [u8; 100],
+    pub content: [u8; 100],
     pub na2: [u8; 8],
+}
+
+pub struct Card {
+    pub identity: Identity,
+    pub records: Records,
+    pub exchange: Exchange,
     pub receiver: Receiver,
 }
 
@@ -59,16 +71,16 @@ pub struct Stepped {
 
 impl Answer {
     pub fn number(self) -> u8
-        ensures { λ r. ⌜ r ≡ numberOf self ⌝ }
+        ensures { λ r. ⌜ r ≡ answerNumber self ⌝ }
     {
         match self {
-            Answer::Nothing => 0,
+            Answer::Nothing => table::NONE,
             Answer::BadFrame(fault) => fault_number(fault),
-            Answer::BroadcastAddress => 6,
+            Answer::BroadcastAddress => table::WRONG_ADDRESS,
             Answer::Refused(refusal) => refusal.number(),
-            Answer::BrokenRule => 12,
-            Answer::WrongCipher => 13,
-            Answer::WrongLength => 17,
+            Answer::BrokenRule => table::BROKEN_RULE,
+            Answer::WrongCipher => table::WRONG_CIPHER,
+            Answer::WrongLength => table::WRONG_LENGTH,
         }
     }
 }

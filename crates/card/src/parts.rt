@@ -1,10 +1,10 @@
-// A card with one of its parts another.
+// A card with one of its parts another, and a card beside what the host is told.
 ghost use mathlib.Core.Path.{_≡_};
-ghost use Rattle.card.specs.Parts.{inPhase, withRecords, withReceiver, answering, stepped, responding};
-ghost use mathlib.Core.List.{[]};
+ghost use Rattle.card.specs.Parts.{idle, withExchange, withRecords, withReceiver, answered, unreplied};
 use crate::Answer;
 use crate::Answered;
 use crate::Card;
+use crate::Exchange;
 use crate::Phase;
 use crate::Stepped;
 use numbers::Octets;
@@ -12,24 +12,26 @@ use receiver::Receiver;
 use records::Records;
 
 impl Card {
-    pub(crate) fn in_phase(self, phase: Phase) -> Card
-        ensures { λ r. ⌜ r ≡ inPhase phase self ⌝ }
+    pub(crate) fn with_exchange(self, exchange: Exchange) -> Card
+        ensures { λ r. ⌜ r ≡ withExchange exchange self ⌝ }
     {
-        let address = self.address;
-        let key = self.key;
-        let records = self.records;
-        let waiting = self.waiting;
-        let na2 = self.na2;
-        let receiver = self.receiver;
-        Card {
-            address: address,
-            key: key,
-            records: records,
-            phase: phase,
-            waiting: waiting,
+        let mut next = self;
+        next.exchange = exchange;
+        next
+    }
+
+    // No exchange waits. The octets beside the phase stay, and are free.
+    pub(crate) fn idle(self) -> Card
+        ensures { λ r. ⌜ r ≡ idle self ⌝ }
+    {
+        let exchange = self.exchange;
+        let content = exchange.content;
+        let na2 = exchange.na2;
+        self.with_exchange(Exchange {
+            phase: Phase::Idle,
+            content: content,
             na2: na2,
-            receiver: receiver,
-        }
+        })
     }
 
     pub(crate) fn with_records(self, records: Records) -> Card
@@ -49,8 +51,8 @@ impl Card {
     }
 
     // This card beside the answer.
-    pub(crate) fn answering(self, answer: Answer) -> Answered
-        ensures { λ r. ⌜ r ≡ answering self answer ⌝ }
+    pub(crate) fn answered(self, answer: Answer) -> Answered
+        ensures { λ r. ⌜ r ≡ answered self answer ⌝ }
     {
         Answered {
             card: self,
@@ -59,8 +61,8 @@ impl Card {
     }
 
     // This card beside the answer, without a reply.
-    pub(crate) fn unanswered(self, answer: Answer) -> Stepped
-        ensures { λ r. ⌜ r ≡ stepped (responding self answer []) ⌝ }
+    pub(crate) fn unreplied(self, answer: Answer) -> Stepped
+        ensures { λ r. ⌜ r ≡ unreplied self answer ⌝ }
     {
         Stepped {
             card: self,

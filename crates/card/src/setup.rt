@@ -1,9 +1,13 @@
 // Setup (01, The card).
 ghost use mathlib.Core.Path.{_≡_};
+ghost use Rattle.card.specs.Numbers.{answerNumber};
+ghost use Rattle.card.specs.Parts.{Tells};
 ghost use Rattle.card.specs.Setup.{bare, fresh, refusedSetup, admitted, afterSetup};
 use crate::Answer;
 use crate::Answered;
 use crate::Card;
+use crate::Exchange;
+use crate::Identity;
 use crate::Phase;
 use crate::frames::write_answer;
 use crate::sound::broadcast;
@@ -15,14 +19,20 @@ impl Card {
     fn fresh(address: [u8; 6], key: [u8; 8], records: Records) -> Card
         ensures { λ r. ⌜ r ≡ fresh address key records ⌝ }
     {
-        let receiver = Receiver::new();
-        Card {
+        let identity = Identity {
             address: address,
             key: key,
-            records: records,
+        };
+        let exchange = Exchange {
             phase: Phase::Idle,
-            waiting: [0u8; 100],
+            content: [0u8; 100],
             na2: [0u8; 8],
+        };
+        let receiver = Receiver::new();
+        Card {
+            identity: identity,
+            records: records,
+            exchange: exchange,
             receiver: receiver,
         }
     }
@@ -37,7 +47,7 @@ impl Card {
     }
 
     fn refused_setup(answer: Answer) -> Answered
-        ensures { λ r. ⌜ r ≡ refusedSetup answer ⌝ }
+        ensures { λ r. ⌜ Tells (refusedSetup (answerNumber answer)) r ⌝ }
     {
         Answered {
             card: Card::bare(),
@@ -47,7 +57,7 @@ impl Card {
 
     // Setup's checks after 17: the address (6), the rules of the records (12), then each content in turn (7, 8, 9).
     fn admitted(address: [u8; 6], key: [u8; 8], records: Records) -> Answered
-        ensures { λ r. ⌜ r ≡ admitted address key records ⌝ }
+        ensures { λ r. ⌜ Tells (admitted address key records) r ⌝ }
     {
         if broadcast(address) {
             return Card::refused_setup(Answer::BroadcastAddress);
@@ -59,12 +69,12 @@ impl Card {
         let records::Answer::Accepted = contents else {
             return Card::refused_setup(write_answer(contents));
         };
-        Card::fresh(address, key, records).answering(Answer::Nothing)
+        Card::fresh(address, key, records).answered(Answer::Nothing)
     }
 
     // A refused setup hands back a fixed sound card without records.
     pub fn setup(address: &[u8], key: &[u8], records: Records) -> Answered
-        ensures { λ r. ⌜ r ≡ afterSetup (now (address .entry)) (now (key .entry)) records ⌝ }
+        ensures { λ r. ⌜ Tells (afterSetup (now (address .entry)) (now (key .entry)) records) r ⌝ }
     {
         if address.len() != 6 {
             return Card::refused_setup(Answer::WrongLength);

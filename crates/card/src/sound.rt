@@ -33,11 +33,13 @@ impl Card {
     pub fn sound(self) -> bool
         ensures { λ r. ⌜ r ≡ sound self ⌝ }
     {
-        let address = self.address;
+        let identity = self.identity;
+        let address = identity.address;
         if broadcast(address) {
             return false;
         }
-        let phase = self.phase;
+        let exchange = self.exchange;
+        let phase = exchange.phase;
         if !phase.fitting() {
             return false;
         }

@@ -1,50 +1,38 @@
-// The calls after the setup. Each is a kind, an octet or TAB, the length of the reply buffer, the length of a text, and the text: the
-// number lent, or data.
+// The calls after the setup, as `history` reads them.
 use crate::lines;
 use card::Card;
+use history::calls::CallKind;
+use history::calls::head_at;
+use history::calls::text_at;
 ghost use mathlib.Core.Path.{_≡_};
-ghost use Prim.Native.Nat.{_≤_, _<_};
 ghost use lib.ListN.{length};
 
-// Where the call that begins at `at` ends. The end of the input may cut the last one.
-fn call_end(s: &[u8], at: usize) -> usize
-    requires { ⌜ at < length (now s) ⌝ }
-    ensures { λ r. ⌜ (at < r) × (r ≤ length (now (s .entry))) ⌝ }
-{
-    let left = s.len() - at;
-    if left < 4 {
-        return s.len();
-    }
-    let size = 4 + octets::octet(s, at + 3) as usize;
-    if left < size { s.len() } else { at + size }
-}
-
-// All calls from an offset on, and the card after them.
-pub(crate) fn play(card: Card, s: &[u8], from: usize) -> Card {
+// All calls, and the card after them.
+pub(crate) fn play(card: Card, s: &[u8]) -> Card {
     let mut now = card;
     let mut index = 1;
-    let mut at = from;
+    let mut at = 0;
     while at < s.len() {
-        let end = call_end(s, at);
-        now = called(now, index, &s[at..end]);
+        let rest = &s[at..];
+        let head = head_at(rest);
+        let size = head.size;
+        now = called(now, index, rest);
         index = std::num::wrapping_add_u64(index, 1);
-        at = end;
+        at += size.0;
     }
     now
 }
 
-// One call; a call that the end of the input cuts is a gap.
-fn called(card: Card, index: u64, call: &[u8]) -> Card {
-    let length = octets::octet(call, 3) as usize;
-    if call.len() < 4 + length {
-        return gap(card, index);
-    }
-    let argument = octets::octet(call, 1);
-    match octets::octet(call, 0) {
-        0 => octet(card, index, argument, octets::octet(call, 2), &call[4..]),
-        1 => meter_write(card, index, argument, &call[4..]),
-        2 => session_end(card, index),
-        _ => gap(card, index),
+// The call that the octets begin with.
+fn called(card: Card, index: u64, calls: &[u8]) -> Card {
+    let head = head_at(calls);
+    let text = text_at(calls);
+    let kind = head.kind;
+    match kind {
+        CallKind::Octet => octet(card, index, head.argument, head.reply, text),
+        CallKind::MeterWrite => meter_write(card, index, head.argument, text),
+        CallKind::SessionEnd => session_end(card, index),
+        CallKind::Gap => gap(card, index),
     }
 }
 
@@ -55,13 +43,13 @@ fn untouched() -> [u8; 255]
     [0xA5; 255]
 }
 
-fn octet(card: Card, index: u64, octet: u8, room: u8, number: &[u8]) -> Card {
+fn octet(card: Card, index: u64, octet: u8, reply: u8, na2: &[u8]) -> Card {
     let mut buffer = untouched();
-    let end = room as usize;
-    let stepped = card.octet(octet, number, &mut buffer[..end]);
+    let end = reply as usize;
+    let stepped = card.octet(octet, na2, &mut buffer[..end]);
     let answer = stepped.answer;
-    let reply = stepped.reply;
-    lines::print_octet(index, answer.number(), &buffer, reply.0);
+    let sent = stepped.reply;
+    lines::print_octet(index, answer.number(), &buffer, sent.0);
     stepped.card
 }
 

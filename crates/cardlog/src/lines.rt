@@ -1,26 +1,27 @@
 // The lines that are printed.
 use libc::STDOUT_FILENO;
+use numbers::Octets;
 use records::Record;
 use records::Records;
+use text::put_hex;
 use text::put_number;
-use text::put_octets;
 use text::put_words;
 
 // A line with its end; the longest has under 600 octets.
-fn print_line(line: &mut [u8], at: usize) {
+fn print_line(line: &mut [u8], at: Octets) {
     let end = put_words(line, at, b"\n");
-    io::write_all(STDOUT_FILENO, octets::part(line, 0, end));
+    io::write_all(STDOUT_FILENO, octets::part(line, 0, end.0));
 }
 
 pub(crate) fn print_setup(number: u8) {
     let mut line = [0u8; 64];
-    let next = put_number(&mut line, 0, b"setup ", number as u64);
+    let next = put_number(&mut line, Octets(0), b"setup ", number as u64);
     print_line(&mut line, next);
 }
 
 // The index of a call and its number.
-fn put_head(line: &mut [u8], index: u64, number: u8) -> usize {
-    let next = put_number(line, 0, b"", index);
+fn put_head(line: &mut [u8], index: u64, number: u8) -> Octets {
+    let next = put_number(line, Octets(0), b"", index);
     put_number(line, next, b" ", number as u64)
 }
 
@@ -46,7 +47,7 @@ pub(crate) fn print_octet(index: u64, number: u8, buffer: &[u8; 255], reply: usi
     print_line(&mut line, end);
 }
 
-fn put_past(line: &mut [u8], at: usize, kept: bool) -> usize {
+fn put_past(line: &mut [u8], at: Octets, kept: bool) -> Octets {
     if kept {
         return at;
     }
@@ -81,16 +82,16 @@ fn print_record(record: Record) {
     let length = record.length;
     let storage = record.storage;
     let mut line = [0u8; 640];
-    let length_at = put_octets(&mut line, 0, b"record ", &[attributes.tab]);
+    let length_at = put_hex(&mut line, Octets(0), b"record ", &[attributes.tab]);
     let octets_at = put_number(&mut line, length_at, b" ", length.0 as u64);
     let next = put_some(&mut line, octets_at, octets::part(&storage, 0, length.0));
     print_line(&mut line, next);
 }
 
 // A space and the octets; nothing where there are none.
-fn put_some(line: &mut [u8], at: usize, octets: &[u8]) -> usize {
+fn put_some(line: &mut [u8], at: Octets, octets: &[u8]) -> Octets {
     if octets.len() == 0 {
         return at;
     }
-    put_octets(line, at, b" ", octets)
+    put_hex(line, at, b" ", octets)
 }

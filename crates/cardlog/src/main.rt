@@ -21,7 +21,7 @@ fn run(s: &[u8]) {
     lines::print_setup(answer.number());
     if let Answer::Nothing = answer {
         let fresh = done.card;
-        let card = calls::play(fresh, s, from);
+        let card = calls::play(fresh, &s[from..]);
         lines::print_records(card.records);
     }
 }

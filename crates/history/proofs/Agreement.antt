@@ -9,47 +9,55 @@ use borrow.Author.Tests.{leb-true, leb-false, lt-ltb, le-ltb}
 use Rattle.octets.specs.Part.{same}
 use Rattle.octets.proofs.Splice.{take-fronted}
 use Rattle.des.specs.Des.{encipher}
+use Rattle.numbers.specs.Answer.{Answer, given, refused, refusedAt}
+use Rattle.frame.specs.Addresses.{broadcast}
 use Rattle.frame.specs.declared.codes.Command.{Command}
 use Rattle.frame.specs.declared.codes.Command.the-variants.{Enq, Dat, Rec, Ech, Aut, Eos, Aso, Rso, Ib, Drj, Arj, Trf, Trb, Tra, Pre, Sel}
 use Rattle.frame.specs.declared.content.Fields.{Fields}
-use Rattle.frame.specs.Codes.{codeOf}
 use Rattle.frame.specs.Content.{fieldsOf, dataOf}
-use Rattle.records.specs.declared.Found.{Found}
-use Rattle.records.specs.declared.Found.the-variants as found
 use Rattle.records.specs.Finding.{attributesOf, findReadable}
 use Rattle.records.proofs.Writes.{write-attributes}
 use Rattle.records.specs.Setup.{Rules}
 use Rattle.receiver.specs.Receiving.{Reception, Awaiting, Outcome, Silent, Dropped, Complete, onOctet, onGap}
-use Rattle.receiver.specs.declared.Receiver.{Receiver}
-use Rattle.receiver.specs.Receiver.{receptionOf, holding}
+use Rattle.receiver.specs.Receiver.{receptionOf}
 use Rattle.receiver.proofs.Soundness.{SoundReception, reception-sound, holding-reception}
 use Rattle.receiver.proofs.Follows.{octet-keeps, gap-keeps}
 use Rattle.card.specs.declared.Phase.{Phase}
 use Rattle.card.specs.declared.Phase.the-variants.{Idle, Waiting}
+use Rattle.card.specs.declared.Exchange.{Exchange as CardExchange}
 use Rattle.card.specs.declared.Card.{Card}
-use Rattle.frame.specs.Addresses.{broadcast}
-use Rattle.card.specs.Soundness.{sound}
-use Rattle.card.specs.Parts.{Response, withReceiver}
+use Rattle.card.specs.declared.taking.Taken.{Taken}
+use Rattle.card.specs.declared.taking.Taken.the-variants as taking
+use Rattle.card.specs.Loan.{Loan}
+use Rattle.card.specs.Parts.{Response, idle, withExchange}
+use Rattle.card.specs.Taking.{takenIf, takenFor}
 use Rattle.card.specs.Frames as card
 use Rattle.card.specs.Events as card-events
 use Rattle.card.specs.Events.{Call, Octet, Gap, SessionEnd, MeterWrite, after}
 use Rattle.card.proofs.Soundness.{sound-test}
 use Rattle.card.proofs.Keeping.{Whole}
-use Rattle.history.specs.Book.{Setup, Wait, None, Exchange, Book, receiving, waiting, Cause, Metered, Programmed, Transferred, Broadcast, accessOf, note, authenticated, onFrame, heardAs, heard, step}
+use Rattle.card.proofs.Station.{frame-receiver}
+use Rattle.history.specs.Book.{Setup, Wait, None, Exchange, Book, withReceiver, withWait, Cause, Metered, Programmed, Transferred, Broadcast, causeOf, note, authenticated, Role, Reading, Programming, Authentication, Transfer, BroadcastTransfer, Initialisation, NotTaken, roleOf, onRole, onFrame, heardAs, heard, step}
 use Rattle.history.proofs.Notes.{AsNoted, write-noted}
 
 -- the exchange that a card waits with
-abbrev pub waitOf : Phase → List ℕ → List ℕ → Wait
-waitOf Idle waiting na2 = None
-waitOf (Waiting adp tab n) waiting na2 = Exchange adp tab (take (n .0) waiting) na2
+abbrev pub waitIn : Phase → List ℕ → List ℕ → Wait
+waitIn Idle content na2 = None
+waitIn (Waiting adp tab n) content na2 = Exchange adp tab (take (n .0) content) na2
 
--- The card has what setup gave, waits as the book does, and its records hold what the book has noted.
-pub record Agrees (s : Setup) (c : Card) (b : Book) : Type 0 where
-  pub address : c .address ≡ s .address
-  pub key : c .key ≡ s .key
+abbrev pub waitOf : CardExchange → Wait
+waitOf e = waitIn (e .phase) (e .content) (e .na2)
+
+-- But for the receivers: the card has what setup gave, waits as the book does, and its records hold what the book has noted.
+pub record StationAgrees (s : Setup) (c : Card) (b : Book) : Type 0 where
+  pub address : c .identity .address ≡ s .address
+  pub key : c .identity .key ≡ s .key
   pub attributes : attributesOf (c .records) ≡ s .attributes
   pub contents : AsNoted (c .records) (b .noted)
-  pub wait : waitOf (c .phase) (c .waiting) (c .na2) ≡ b .wait
+  pub wait : waitOf (c .exchange) ≡ b .wait
+
+pub record Agrees (s : Setup) (c : Card) (b : Book) : Type 0 where
+  pub station : StationAgrees s c b
   pub reception : receptionOf (c .receiver) ≡ b .receiver
 
 -- the book reads 17 from the loan as the card does
@@ -60,11 +68,45 @@ not-under n m = by (leb n m) refl
     by true e = le-ltb m n (leb-true n m e)
     by false e = lt-ltb m n (leb-false n m e)
 
+-- what the card takes a frame for, in the book's terms
+abbrev pub roleTaken : Taken → Role
+roleTaken taking.Enq = Reading
+roleTaken taking.Rec = Programming
+roleTaken taking.Aut = Authentication
+roleTaken taking.Trf = Transfer
+roleTaken taking.Trb = BroadcastTransfer
+roleTaken taking.Ib = Initialisation
+roleTaken taking.None = NotTaken
+
+role-if : (b : Bool) (t : Taken) → roleTaken (takenIf b t) ≡ cond b (roleTaken t) NotTaken
+role-if true t = refl
+role-if false t = refl
+
 module _ (s : Setup) where
-  cond-agrees : (x y : Bool) → x ≡ y → (r q : Response) (a b : Book) → Agrees s (r .card) a → Agrees s (q .card) b → Agrees s (cond x r q .card) (cond y a b)
+  -- card and book take the same frames
+  pub same-role : (k : Command) (f : Fields) → roleTaken (takenFor (s .address) k (f .ads)) ≡ roleOf k s f
+  unfolding takenFor roleOf broadcast
+  same-role Enq f = role-if (same (f .ads) (s .address)) taking.Enq
+  same-role Rec f = role-if (same (f .ads) (s .address)) taking.Rec
+  same-role Aut f = role-if (same (f .ads) (s .address)) taking.Aut
+  same-role Trf f = role-if (same (f .ads) (s .address)) taking.Trf
+  same-role Trb f = role-if (same (f .ads) (replicate 6 0)) taking.Trb
+  same-role Ib f = role-if (same (f .ads) (replicate 6 0)) taking.Ib
+  same-role Dat f = refl
+  same-role Ech f = refl
+  same-role Eos f = refl
+  same-role Aso f = refl
+  same-role Rso f = refl
+  same-role Drj f = refl
+  same-role Arj f = refl
+  same-role Tra f = refl
+  same-role Pre f = refl
+  same-role Sel f = refl
+
+  cond-agrees : (x y : Bool) → x ≡ y → (r q : Response) (a b : Book) → StationAgrees s (r .card) a → StationAgrees s (q .card) b → StationAgrees s (cond x r q .card) (cond y a b)
   cond-agrees x y e r q a b h k = rw e (by y)
     where
-      by : (z : Bool) → Agrees s (cond z r q .card) (cond z a b)
+      by : (z : Bool) → StationAgrees s (cond z r q .card) (cond z a b)
       by true = h
       by false = k
 
@@ -74,108 +116,131 @@ module _ (s : Setup) where
   loan-agrees false true r q a b h k = k
   loan-agrees false false r q a b h k = k
 
-  module _ (c : Card) (b : Book) (h : Agrees s c b) where
-    -- another exchange that waits and another reception, in both
-    moved : (p : Phase) (octets na2 : List ℕ) (r : Receiver) (w : Wait) (q : Reception) → waitOf p octets na2 ≡ w → receptionOf r ≡ q
-        → Agrees s (record { address = c .address; key = c .key; records = c .records; phase = p; waiting = octets; na2 = na2; receiver = r }) (record { receiver = q; wait = w; noted = b .noted })
-    moved p octets na2 r w q e f =
-        record { address = h .address; key = h .key; attributes = h .attributes; contents = h .contents; wait = e; reception = f }
+  module _ (c : Card) (b : Book) (h : StationAgrees s c b) where
+    -- another exchange, in both
+    waits-agree : (e : CardExchange) (w : Wait) → waitOf e ≡ w → StationAgrees s (withExchange e c) (withWait w b)
+    waits-agree e w q = record { address = h .address; key = h .key; attributes = h .attributes; contents = h .contents; wait = q }
 
-    idle-agrees : Agrees s (card.idle c) (waiting None b)
-    idle-agrees = moved Idle _ _ _ None _ refl (h .reception)
+    idle-agrees : StationAgrees s (idle c) (withWait None b)
+    idle-agrees = waits-agree _ None refl
 
-    receiving-agrees : (r : Reception) → SoundReception r → Agrees s (withReceiver (holding r (c .receiver)) c) (receiving r b)
-    receiving-agrees r t = moved _ _ _ (holding r (c .receiver)) _ r (h .wait) (holding-reception r (c .receiver) t)
+    opened-agrees : (loan : Loan) (f : Fields) (d : List ℕ) → StationAgrees s (card.waitingFor c loan f d) (withWait (Exchange (f .adp) (f .tab) d (loan .na2)) b)
+    opened-agrees loan f d =
+        waits-agree _ (Exchange (f .adp) (f .tab) d (loan .na2)) (ap (λ (l : List ℕ). Exchange (f .adp) (f .tab) l (loan .na2)) (take-fronted d (c .exchange .content)))
 
-    waiting-agrees : (number : List ℕ) (f : Fields) (d : List ℕ) → Agrees s (card.waitingFor c number f d) (waiting (Exchange (f .adp) (f .tab) d number) b)
-    waiting-agrees number f d =
-        moved _ _ number _ (Exchange (f .adp) (f .tab) d number) _ (ap (λ (l : List ℕ). Exchange (f .adp) (f .tab) l number) (take-fronted d (c .waiting))) (h .reception)
-
-    written-agrees : Rules (c .records) → (cause : Cause) (t : ℕ) (d : List ℕ) → Agrees s (card.written c (accessOf cause) t d .card) (note s cause t d b)
+    written-agrees : Rules (c .records) → (cause : Cause) (t : ℕ) (d : List ℕ) → StationAgrees s (card.written c (causeOf cause) t d .card) (note s cause t d b)
     unfolding card.written note
     written-agrees rules cause t d =
         record {
           address = h .address;
           key = h .key;
-          attributes = write-attributes (c .records) (accessOf cause) t d ∙ h .attributes;
-          contents = rw (← h .attributes) (write-noted (c .records) rules (b .noted) (h .contents) (accessOf cause) t d);
+          attributes = write-attributes (c .records) (causeOf cause) t d ∙ h .attributes;
+          contents = rw (← h .attributes) (write-noted (c .records) rules (b .noted) (h .contents) (causeOf cause) t d);
           wait = h .wait;
-          reception = h .reception;
         }
 
-    own-agrees : (f : Fields) (r : Response) (a : Book) → Agrees s (r .card) a → Agrees s (cond (same (f .ads) (c .address)) r (card.silent c) .card) (cond (same (f .ads) (s .address)) a b)
-    own-agrees f r a k = cond-agrees _ _ (ap (same (f .ads)) (h .address)) r (card.silent c) a b k h
-
-    broadcast-agrees : (f : Fields) (r : Response) (a : Book) → Agrees s (r .card) a → Agrees s (cond (broadcast (f .ads)) r (card.silent c) .card) (cond (same (f .ads) (replicate 6 0)) a b)
-    unfolding broadcast
-    broadcast-agrees f r a k = cond-agrees (broadcast (f .ads)) (same (f .ads) (replicate 6 0)) refl r (card.silent c) a b k h
-
-  module _ (c : Card) (b : Book) (h : Agrees s c b) (rules : Rules (c .records)) where
-    enq-agrees : (g : Found) (f : Fields) → Agrees s (card.enqFor g c f .card) (waiting None b)
+  module _ (c : Card) (b : Book) (h : StationAgrees s c b) (rules : Rules (c .records)) where
+    enq-agrees : (g : Answer ℕ) (f : Fields) → StationAgrees s (card.enqFor g c f .card) (withWait None b)
     unfolding card.enqFor
-    enq-agrees (found.At i) f = idle-agrees c b h
-    enq-agrees (found.Refused refusal) f = idle-agrees c b h
+    enq-agrees (given i) f = idle-agrees c b h
+    enq-agrees (refused n) f = idle-agrees c b h
+    enq-agrees (refusedAt n offset) f = idle-agrees c b h
 
     -- AUT, by whether an exchange waits
-    aut-agrees : (p : Phase) → c .phase ≡ p → (f : Fields) → Agrees s (card.autIn p c f .card) (authenticated (b .wait) s f (waiting None b))
-    unfolding card.autIn card.authentic card.settled authenticated
+    aut-agrees : (p : Phase) → c .exchange .phase ≡ p → (f : Fields) → StationAgrees s (card.autIn p c f .card) (authenticated (b .wait) s f (withWait None b))
+    unfolding card.autIn card.authentic card.acknowledged authenticated
     aut-agrees Idle e f =
-        let none : b .wait ≡ None = sym (h .wait) ∙ ap (λ p. waitOf p (c .waiting) (c .na2)) e in
-        rw none (moved c b h _ _ _ _ None _ (rw e) (h .reception))
+        let none : b .wait ≡ None = sym (h .wait) ∙ ap (λ p. waitIn p (c .exchange .content) (c .exchange .na2)) e in
+        rw none (waits-agree c b h (c .exchange) None (h .wait ∙ none))
     aut-agrees (Waiting adp tab n) e f =
-        let d = take (n .0) (c .waiting) in
-        let waits : b .wait ≡ Exchange adp tab d (c .na2) = sym (h .wait) ∙ ap (λ p. waitOf p (c .waiting) (c .na2)) e in
-        let idle = idle-agrees c b h in
+        let d = take (n .0) (c .exchange .content) in
+        let waits : b .wait ≡ Exchange adp tab d (c .exchange .na2) = sym (h .wait) ∙ ap (λ p. waitIn p (c .exchange .content) (c .exchange .na2)) e in
+        let ended = idle-agrees c b h in
         rw waits
-        (cond-agrees _ _ (ap (λ (key : List ℕ). eqb adp (f .adp) && same (f .za2) (encipher key (c .na2))) (h .key)) _ _ _ _ (written-agrees (card.idle c) (waiting None b) idle rules (Programmed adp) tab d) idle)
+        (cond-agrees _ _ (ap (λ (key : List ℕ). eqb adp (f .adp) && same (f .za2) (encipher key (c .exchange .na2))) (h .key)) _ _ _ _ (written-agrees (idle c) (withWait None b) ended rules (Programmed adp) tab d) ended)
 
-    frame-agrees : (k : Command) (number : List ℕ) (f : Fields) (d : List ℕ) → Agrees s (card.onFrame c number k f d .card) (onFrame k s number f d b)
-    unfolding card.onFrame card.taken card.oneOf codeOf card.respond card.onEnq card.onRec card.onAut card.onTrf card.onTrb card.onIb card.settled onFrame
-    frame-agrees Enq number f d = own-agrees c b h f _ _ (enq-agrees (findReadable (attributesOf (c .records)) (f .tab)) f)
-    frame-agrees Rec number f d = own-agrees c b h f _ _ (waiting-agrees c b h number f d)
-    frame-agrees Aut number f d = own-agrees c b h f _ _ (aut-agrees (c .phase) refl f)
-    frame-agrees Trf number f d = own-agrees c b h f _ _ (written-agrees (card.idle c) (waiting None b) (idle-agrees c b h) rules (Transferred (f .adp)) (f .tab) d)
-    frame-agrees Trb number f d = broadcast-agrees c b h f _ _ (written-agrees (card.idle c) (waiting None b) (idle-agrees c b h) rules (Broadcast (f .adp)) (f .tab) d)
-    frame-agrees Ib number f d = broadcast-agrees c b h f _ _ (idle-agrees c b h)
-    frame-agrees Dat number f d = h
-    frame-agrees Ech number f d = h
-    frame-agrees Eos number f d = h
-    frame-agrees Aso number f d = h
-    frame-agrees Rso number f d = h
-    frame-agrees Drj number f d = h
-    frame-agrees Arj number f d = h
-    frame-agrees Tra number f d = h
-    frame-agrees Pre number f d = h
-    frame-agrees Sel number f d = h
+    respond-agrees : (t : Taken) (loan : Loan) (f : Fields) (d : List ℕ) → StationAgrees s (card.respond t c loan f d .card) (onRole (roleTaken t) s loan f d b)
+    unfolding card.respond card.onEnq card.onRec card.onAut card.onTrf card.onTrb card.onIb card.acknowledged onRole
+    respond-agrees taking.Enq loan f d = enq-agrees (findReadable (attributesOf (c .records)) (f .tab)) f
+    respond-agrees taking.Rec loan f d = opened-agrees c b h loan f d
+    respond-agrees taking.Aut loan f d = aut-agrees (c .exchange .phase) refl f
+    respond-agrees taking.Trf loan f d = written-agrees (idle c) (withWait None b) (idle-agrees c b h) rules (Transferred (f .adp)) (f .tab) d
+    respond-agrees taking.Trb loan f d = written-agrees (idle c) (withWait None b) (idle-agrees c b h) rules (Broadcast (f .adp)) (f .tab) d
+    respond-agrees taking.Ib loan f d = idle-agrees c b h
+    respond-agrees taking.None loan f d = h
 
-    heard-agrees : (o : Outcome) (number : List ℕ) → Agrees s (card-events.heardAs o c number .card) (heardAs o s number b)
-    unfolding card-events.heardAs heardAs
-    heard-agrees Silent number = h
-    heard-agrees (Dropped fault) number = h
-    heard-agrees (Complete k o) number = frame-agrees k number (fieldsOf k o) (dataOf k o)
+    -- a good frame keeps card and book in agreement, whatever their receivers hold
+    pub frame-agrees : (k : Command) (loan : Loan) (f : Fields) (d : List ℕ) → StationAgrees s (card.onFrame c loan k f d .card) (onFrame k s loan f d b)
+    unfolding card.onFrame onFrame
+    frame-agrees k loan f d =
+        let role = ap (λ (own : List ℕ). roleTaken (takenFor own k (f .ads))) (h .address) ∙ same-role k f in
+        subst (λ (x : Role). StationAgrees s (card.respond (takenFor (c .identity .address) k (f .ads)) c loan f d .card) (onRole x s loan f d b)) role
+        (respond-agrees (takenFor (c .identity .address) k (f .ads)) loan f d)
+
+  -- a good frame leaves the book's receiver
+  aut-receiver : (w : Wait) (f : Fields) (b : Book) → authenticated w s f b .receiver ≡ b .receiver
+  unfolding authenticated note
+  aut-receiver None f b = refl
+  aut-receiver (Exchange adp tab d na2) f b = by (eqb adp (f .adp) && same (f .za2) (encipher (s .key) na2))
+    where
+      by : (x : Bool) → cond x (note s (Programmed adp) tab d b) b .receiver ≡ b .receiver
+      by true = refl
+      by false = refl
+
+  book-receiver : (k : Role) (loan : Loan) (f : Fields) (d : List ℕ) (b : Book) → onRole k s loan f d b .receiver ≡ b .receiver
+  unfolding onRole note
+  book-receiver Reading loan f d b = refl
+  book-receiver Programming loan f d b = refl
+  book-receiver Authentication loan f d b = aut-receiver (b .wait) f (withWait None b)
+  book-receiver Transfer loan f d b = refl
+  book-receiver BroadcastTransfer loan f d b = refl
+  book-receiver Initialisation loan f d b = refl
+  book-receiver NotTaken loan f d b = refl
+
+  heard-agrees : (c : Card) (b : Book) → Agrees s c b → Rules (c .records) → (o : Outcome) (loan : Loan) → Agrees s (card-events.heardAs o c loan .card) (heardAs o s loan b)
+  unfolding card-events.heardAs heardAs onFrame
+  heard-agrees c b h rules Silent loan = h
+  heard-agrees c b h rules (Dropped fault) loan = h
+  heard-agrees c b h rules (Complete k o) loan =
+      let f = fieldsOf k o in
+      let d = dataOf k o in
+      record {
+        station = frame-agrees c b (h .station) rules k loan f d;
+        reception = ap receptionOf (frame-receiver c loan k f d) ∙ h .reception ∙ sym (book-receiver (roleOf k s f) loan f d b);
+      }
 
   module _ (c : Card) (whole : Whole c) (b : Book) (h : Agrees s c b) where
     partly : SoundReception (receptionOf (c .receiver))
     partly = reception-sound (c .receiver) (whole .sound .receiver) (whole .long)
 
-    heard-octet : (o : ℕ) (number : List ℕ) → Agrees s (card-events.heard c o number .card) (heard (onOctet o (b .receiver)) s number b)
-    unfolding card-events.heard
-    heard-octet o number =
-        let r = onOctet o (receptionOf (c .receiver)) in
-        subst (λ (q : Reception). Agrees s (card-events.heardStep r c number .card) (heard (onOctet o q) s number b)) (h .reception)
-        (heard-agrees (card-events.afterStep r c) (receiving (r .next) b) (receiving-agrees c b h (r .next) (octet-keeps o _ partly)) (whole .sound .records .rules) (r .outcome) number)
+    -- another reception, in both
+    receiving-agrees : (r : Reception) → SoundReception r → Agrees s (card-events.afterStep (record { next = r; outcome = Silent }) c) (withReceiver r b)
+    receiving-agrees r t =
+        record {
+          station = record { address = h .station .address; key = h .station .key; attributes = h .station .attributes; contents = h .station .contents; wait = h .station .wait };
+          reception = holding-reception r (c .receiver) t;
+        }
 
-    octet-agrees : (o : ℕ) (number : List ℕ) (room : ℕ) → Agrees s (card-events.afterOctet c o number room .card) (step s b (Octet o number room))
+    heard-octet : (o : ℕ) (loan : Loan) → Agrees s (card-events.heard c o loan .card) (heard (onOctet o (b .receiver)) s loan b)
+    unfolding card-events.heard
+    heard-octet o loan =
+        let r = onOctet o (receptionOf (c .receiver)) in
+        subst (λ (q : Reception). Agrees s (card-events.heardStep r c loan .card) (heard (onOctet o q) s loan b)) (h .reception)
+        (heard-agrees (card-events.afterStep r c) (withReceiver (r .next) b) (receiving-agrees (r .next) (octet-keeps o _ partly)) (whole .sound .records .rules) (r .outcome) loan)
+
+    octet-agrees : (o : ℕ) (loan : Loan) → Agrees s (card-events.afterOctet c o loan .card) (step s b (Octet o loan))
     unfolding card-events.afterOctet step
-    octet-agrees o number room =
-        rw (sound-test c (whole .sound), not-under 128 room)
-        (loan-agrees (eqb (length number) 8) (leb 128 room) (card-events.heard c o number) _ _ b (heard-octet o number) h)
+    octet-agrees o loan =
+        rw (sound-test c (whole .sound), not-under 128 (loan .reply))
+        (loan-agrees (eqb (length (loan .na2)) 8) (leb 128 (loan .reply)) (card-events.heard c o loan) _ _ b (heard-octet o loan) h)
 
     pub step-agrees : (k : Call) → Agrees s (after c k .card) (step s b k)
-    unfolding after card-events.afterGap card-events.afterSessionEnd card-events.afterMeterWrite step
-    step-agrees (Octet o number room) = octet-agrees o number room
+    unfolding after card-events.afterGap card-events.afterSessionEnd card-events.afterMeterWrite step note card.written
+    step-agrees (Octet o loan) = octet-agrees o loan
     step-agrees Gap =
-        rw (sound-test c (whole .sound), ← h .reception)
-        (receiving-agrees c b h (onGap (receptionOf (c .receiver)) .next) (gap-keeps _ partly))
-    step-agrees SessionEnd = rw (sound-test c (whole .sound)) (receiving-agrees (card.idle c) (waiting None b) (idle-agrees c b h) Awaiting tt)
-    step-agrees (MeterWrite t d) = rw (sound-test c (whole .sound)) (written-agrees c b h (whole .sound .records .rules) Metered t d)
+        rw (sound-test c (whole .sound), ← h .reception) (receiving-agrees (onGap (receptionOf (c .receiver)) .next) (gap-keeps _ partly))
+    step-agrees SessionEnd =
+        let emptied = receiving-agrees Awaiting tt in
+        rw (sound-test c (whole .sound)) (record { station = idle-agrees _ _ (emptied .station); reception = emptied .reception })
+    step-agrees (MeterWrite t d) =
+        rw (sound-test c (whole .sound)) (record { station = written-agrees c b (h .station) (whole .sound .records .rules) Metered t d; reception = h .reception })

@@ -2,35 +2,35 @@
 use Prim.Native.Nat.{ℕ, zero, suc, _+_, _-_, _≤_, _<_}
 use mathlib.Core.Bool.{Bool, true, false, cond}
 use mathlib.Core.List.{List, [], _∷_}
-use mathlib.Core.Path.{_≡_, refl, sym, _∙_}
+use mathlib.Core.Path.{_≡_, refl, sym, ap, _∙_}
 use native.Mathlib.Omega.{arith}
-use lib.Dec.{leb}
-use lib.ListN.{length, getD, take, drop, length-drop, drop-of-length-le}
+use lib.ListN.{length, take, drop, length-drop, drop-of-length-le}
 use lib.Seq.{length-take-le, take-all, drop-drop}
-use borrow.Author.Tests.{leb-true, leb-false, le-leb, lt-leb}
+use borrow.Author.Tests.{leb-true}
 use Rattle.card.specs.declared.Card.{Card}
 use Rattle.card.specs.Events.{after}
+use Rattle.history.specs.declared.calls.Head.{Head}
 use Rattle.history.specs.Claim.{run}
-use Rattle.history.specs.Encoding.{wholeAt, callAt, sizeAt, callsWithin, callsOf}
+use Rattle.history.specs.Encoding.{wholeAt, wholeHead, cutHead, headAt, callAt, sizeAt, callsWithin, callsOf}
 
--- n more octets than a fit where a fit into what n leave
-pub room-left : (n a b : ℕ) → n ≤ b → leb a (b - n) ≡ leb (n + a) b
-room-left n a b h = by (leb a (b - n)) refl
-  where
-    by : (x : Bool) → leb a (b - n) ≡ x → x ≡ leb (n + a) b
-    by true e = sym (le-leb (n + a) b (omega (arith, leb-true a (b - n) e)))
-    by false e = sym (lt-leb (n + a) b (omega (arith, leb-false a (b - n) e)))
-
-pub whole-long : (h : List ℕ) → wholeAt h ≡ true → 4 + getD h 3 0 ≤ length h
-whole-long h e = leb-true _ _ e
-
-pub some-taken : (h : List ℕ) → 0 < length h → (0 < sizeAt h) × (sizeAt h ≤ length h)
-unfolding sizeAt
+some-taken : (h : List ℕ) → 0 < length h → (0 < sizeAt h) × (sizeAt h ≤ length h)
+unfolding headAt
 some-taken h p = by (wholeAt h) refl
   where
-    by : (b : Bool) → wholeAt h ≡ b → (0 < cond b (4 + getD h 3 0) (length h)) × (cond b (4 + getD h 3 0) (length h) ≤ length h)
+    by : (b : Bool) → wholeAt h ≡ b → (0 < cond b (wholeHead h) (cutHead h) .size .0) × (cond b (wholeHead h) (cutHead h) .size .0 ≤ length h)
     by true e = (omega arith, leb-true _ _ e)
     by false e = (p, omega arith)
+
+rest-length : (h : List ℕ) (at : ℕ) → length (take (length h - at) (drop at h)) ≡ length h - at
+rest-length h at = length-take-le (length h - at) (drop at h) (rw length-drop (omega arith))
+
+-- the call that begins at an offset takes an octet or more, and no more than are left
+pub call-taken : (h : List ℕ) (at : ℕ) (x : Head) → at < length h → x ≡ headAt (take (length h - at) (drop at h)) → (0 < x .size .0) × (at + x .size .0 ≤ length h)
+call-taken h at x p e =
+    let left = rest-length h at in
+    let some = some-taken (take (length h - at) (drop at h)) (omega arith) in
+    let size : x .size .0 ≡ sizeAt (take (length h - at) (drop at h)) = ap (λ (y : Head). y .size .0) e in
+    (omega (arith, some .0), omega (arith, some .1))
 
 calls-next : (n : ℕ) (h : List ℕ) → 0 < length h → callsWithin (suc n) h ≡ callAt h ∷ callsWithin n (drop (sizeAt h) h)
 unfolding callsWithin
@@ -69,6 +69,3 @@ module _ (start : Card) (h : List ℕ) where
       let step : next ≡ after c (callAt (drop at h)) .card = rw whole at e in
       let size : taken ≡ sizeAt (drop at h) = rw whole at f in
       (n, record { enough = omega (arith, g .enough); ends = g .ends ∙ rw (calls-next n (drop at h) (omega arith), drop-drop, step, size) })
-
-pub rest-length : (h : List ℕ) (at : ℕ) → length (take (length h - at) (drop at h)) ≡ length h - at
-rest-length h at = length-take-le (length h - at) (drop at h) (rw length-drop (omega arith))

@@ -2,6 +2,9 @@ pub mod Notes
 pub mod Agreement
 pub mod Start
 pub mod History
-pub mod Granted
-mod Decoding
+pub mod Grants
+pub mod Noted
+pub mod Written
+pub mod Replies
+pub mod Decoding
 pub mod RoundTrip

@@ -7,18 +7,17 @@ use native.Mathlib.Omega.{arith}
 use lib.Dec.{eqb}
 use lib.ListN.{length, getD}
 use borrow.Author.Tests.{eq-eqb, ne-eqb, eqb-true, eqb-false}
-use Rattle.records.specs.declared.Access.{Access}
+use Rattle.numbers.specs.Table.{none}
+use Rattle.numbers.specs.Answer.{Answer, given, refused, refusedAt, numberOf}
+use Rattle.records.specs.declared.Cause.{Cause}
 use Rattle.records.specs.declared.Record.{Record}
 use Rattle.records.specs.declared.Records.{Records}
-use Rattle.records.specs.declared.Found.{Found}
-use Rattle.records.specs.declared.Found.the-variants as found
-use Rattle.records.specs.declared.Answer.the-variants.{Accepted}
-use Rattle.records.specs.Numbers.{foundAnswer}
 use Rattle.records.specs.Judging.{contents}
 use Rattle.records.specs.Finding.{used, attributesOf, blank, recordAt}
 use Rattle.records.specs.Writing.{grant, write}
 use Rattle.records.specs.Setup.{Rules, Sound}
 use Rattle.records.proofs.InUse.{attributes-length, used-length, used-at}
+use Rattle.records.proofs.Refusals.{Bounded, grant-bounded}
 use Rattle.records.proofs.Soundness.{sound-length}
 use Rattle.records.proofs.Writes.{holding-contents, write-attributes, write-refused, write-holds, write-others}
 use Rattle.history.specs.Book.{lastNoted, contentsOf}
@@ -51,24 +50,26 @@ first-noted s arrays sound = record { each = λ i h. record { long = long i h; o
     long : (i : ℕ) → i < length (used s) → recordAt s i .length .0 ≡ length (contentsOf (used s) (recordAt s i .attributes .tab))
     long i h = rw (own i h) (sym (sound-length s sound i h (arrays .storage i (omega (arith, used-length s (arrays .each))))))
 
-module _ (s : Records) (rules : Rules s) (noted : ℕ → List ℕ) (h : AsNoted s noted) (access : Access) (t : ℕ) (d : List ℕ) where
+module _ (s : Records) (rules : Rules s) (noted : ℕ → List ℕ) (h : AsNoted s noted) (cause : Cause) (t : ℕ) (d : List ℕ) where
   abbrev next : Records
-  next = write s access t d .records
+  next = write s cause t d .records
 
   was-used : (j : ℕ) → j < length (used next) → j < length (used s)
-  was-used j p = omega (arith, attributes-length s, attributes-length next, ap length (write-attributes s access t d))
+  was-used j p = omega (arith, attributes-length s, attributes-length next, ap length (write-attributes s cause t d))
 
   -- a granted write leaves the data in the record with the TAB, and the other records as they were
-  stored : write s access t d .answer ≡ Accepted → (i j : ℕ) → j < length (used s) → (q : Bool) → eqb (recordAt s j .attributes .tab) t ≡ q → Holds (lastNoted (found.At i) t d noted (recordAt next j .attributes .tab)) (recordAt next j)
+  stored : write s cause t d .number ≡ none → (i j : ℕ) → j < length (used s) → (q : Bool) → eqb (recordAt s j .attributes .tab) t ≡ q → Holds (lastNoted (given i) t d noted (recordAt next j .attributes .tab)) (recordAt next j)
   stored granted i j p true e =
-      rw (write-holds s access t d rules j p (eqb-true _ _ e) granted, e)
+      rw (write-holds s cause t d rules j p (eqb-true _ _ e) granted, e)
       (record { long = refl; octets = holding-contents d (recordAt s j) })
-  stored granted i j p false e = rw (write-others s access t d j (λ used same. eqb-false _ _ e same), e) (h .each j p)
+  stored granted i j p false e = rw (write-others s cause t d j (λ used same. eqb-false _ _ e same), e) (h .each j p)
 
-  pub write-noted : AsNoted next (lastNoted (grant (attributesOf s) access t d) t d noted)
-  unfolding foundAnswer
-  write-noted = by (grant (attributesOf s) access t d) refl
+  pub write-noted : AsNoted next (lastNoted (grant (attributesOf s) cause t d) t d noted)
+  write-noted = by (grant (attributesOf s) cause t d) refl (grant-bounded (attributesOf s) cause t d)
     where
-      by : (g : Found) → grant (attributesOf s) access t d ≡ g → AsNoted next (lastNoted g t d noted)
-      by (found.At i) e = record { each = λ j p. stored (ap foundAnswer e) i j (was-used j p) (eqb (recordAt s j .attributes .tab) t) refl }
-      by (found.Refused refusal) e = rw (write-refused s access t d refusal (ap foundAnswer e)) h
+      by : (g : Answer ℕ) → grant (attributesOf s) cause t d ≡ g → Bounded g → AsNoted next (lastNoted g t d noted)
+      by (given i) e k = record { each = λ j p. stored (ap (λ (g : Answer ℕ). numberOf g) e) i j (was-used j p) (eqb (recordAt s j .attributes .tab) t) refl }
+      by (refused n) e k =
+          let number : write s cause t d .number ≡ n = ap (λ (g : Answer ℕ). numberOf g) e in
+          rw (write-refused s cause t d (λ z. omega (arith, number, z))) h
+      by (refusedAt n offset) e k = absurd k

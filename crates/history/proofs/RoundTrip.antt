@@ -5,51 +5,56 @@ use mathlib.Core.List.{List, [], _∷_, _++_}
 use mathlib.Core.Path.{_≡_, refl, ap₂, _∙_}
 use native.Mathlib.Omega.{arith}
 use lib.ListN.{length, length-append}
-use lib.Seq.{take-append-seam, drop-append-seam, drop-drop}
+use lib.Seq.{drop-append-seam, drop-drop}
 use borrow.Author.Tests.{le-leb}
+use Rattle.octets.proofs.Parts.{part-middle}
 use Rattle.card.specs.Events.{Call, Octet, Gap, SessionEnd, MeterWrite}
-use Rattle.history.specs.Encoding.{callOf, wholeAt, callAt, sizeAt, callsWithin, callsOf, packed, octetsOfCall, frameOctets}
+use Rattle.history.specs.Encoding.{callKind, wholeAt, textAt, headAt, callOf, callAt, sizeAt, callsWithin, callsOf, packed, octetsOfCall, octetsOfCalls}
 use Rattle.history.proofs.Decoding.{calls-none}
 
-module _ (kind argument room : ℕ) (text rest : List ℕ) where
-  abbrev here : List ℕ
-  here = packed kind argument room text ++ rest
+module _ (kind argument reply : ℕ) (text rest : List ℕ) where
+  abbrev pub here : List ℕ
+  here = packed kind argument reply text ++ rest
 
   whole : wholeAt here ≡ true
   whole = le-leb (4 + length text) (length here) (omega (arith, length-append text rest))
 
-  call-read : callAt here ≡ callOf kind argument room text
-  unfolding callAt
-  call-read = rw (whole, take-append-seam text rest)
+  text-read : textAt here ≡ text
+  unfolding textAt
+  text-read = part-middle (kind ∷ argument ∷ reply ∷ length text ∷ []) text rest 4 (4 + length text) refl refl
 
-  size-read : sizeAt here ≡ 4 + length text
-  unfolding sizeAt
-  size-read = rw whole
+  pub call-read : callAt here ≡ callOf (callKind kind) argument reply text
+  unfolding callAt headAt
+  call-read = rw (whole, text-read)
 
-  first-read : (n : ℕ) → callsWithin (suc n) here ≡ callOf kind argument room text ∷ callsWithin n rest
+  pub size-read : sizeAt here ≡ 4 + length text
+  unfolding headAt
+  size-read = rw (whole, sizeAt)
+
+  first-read : (n : ℕ) → callsWithin (suc n) here ≡ callOf (callKind kind) argument reply text ∷ callsWithin n rest
   unfolding callsWithin
   first-read n = rw (call-read, size-read, ← drop-drop (length text) 4 here, drop-append-seam text rest)
 
 call-back : (k : Call) (rest : List ℕ) (n : ℕ) → callsWithin (suc n) (octetsOfCall k ++ rest) ≡ k ∷ callsWithin n rest
-unfolding octetsOfCall callOf
-call-back (Octet o number room) rest n = first-read 0 o room number rest n
+unfolding octetsOfCall callOf callKind
+call-back (Octet o loan) rest n = first-read 0 o (loan .reply) (loan .na2) rest n
 call-back (MeterWrite t d) rest n = first-read 1 t 0 d rest n
 call-back SessionEnd rest n = first-read 2 0 0 [] rest n
 call-back Gap rest n = first-read 3 0 0 [] rest n
 
 some-octets : (k : Call) → 1 ≤ length (octetsOfCall k)
 unfolding octetsOfCall
-some-octets (Octet o number room) = omega arith
+some-octets (Octet o loan) = omega arith
 some-octets (MeterWrite t d) = omega arith
 some-octets SessionEnd = omega arith
 some-octets Gap = omega arith
 
-within-back : (h : List Call) (n : ℕ) → length (frameOctets h) ≤ n → callsWithin n (frameOctets h) ≡ h
-unfolding frameOctets
+within-back : (h : List Call) (n : ℕ) → length (octetsOfCalls h) ≤ n → callsWithin n (octetsOfCalls h) ≡ h
+unfolding octetsOfCalls
 within-back [] n p = calls-none n
-within-back (k ∷ h) zero p = let z : ⊥ = omega (arith, length-append (octetsOfCall k) (frameOctets h), some-octets k) in absurd z
+within-back (k ∷ h) zero p = let z : ⊥ = omega (arith, length-append (octetsOfCall k) (octetsOfCalls h), some-octets k) in absurd z
 within-back (k ∷ h) (suc n) p =
-    call-back k (frameOctets h) n ∙ ap₂ _∷_ refl (within-back h n (omega (arith, length-append (octetsOfCall k) (frameOctets h), some-octets k)))
+    call-back k (octetsOfCalls h) n ∙ ap₂ _∷_ refl (within-back h n (omega (arith, length-append (octetsOfCall k) (octetsOfCalls h), some-octets k)))
 
-pub octets-back : (h : List Call) → callsOf (frameOctets h) ≡ h
-octets-back h = within-back h (length (frameOctets h)) (omega arith)
+pub octets-back : (h : List Call) → callsOf (octetsOfCalls h) ≡ h
+octets-back h = within-back h (length (octetsOfCalls h)) (omega arith)

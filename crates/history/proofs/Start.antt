@@ -1,70 +1,74 @@
 -- The card that an accepted setup gives, and its book: both are fresh, so they agree.
-use Prim.Native.Nat.{ℕ}
-use mathlib.Core.Bool.{Bool, true, false, cond, _&&_}
+use Prim.Native.Nat.{ℕ, zero, suc}
+use mathlib.Core.Bool.{Bool, true, false, cond, _&&_, and-eq-true-iff}
 use mathlib.Core.List.{List}
 use mathlib.Core.Path.{_≡_, refl}
+use native.Mathlib.Omega.{arith}
 use lib.Dec.{eqb}
 use lib.ListN.{length}
+use borrow.Author.Tests.{eqb-true}
+use Rattle.numbers.specs.Table.{none, wrongAddress, brokenRule, wrongLength}
+use Rattle.frame.specs.Addresses.{broadcast}
 use Rattle.records.specs.declared.Records.{Records}
-use Rattle.records.specs.declared.Answer.{Answer as ContentsAnswer}
-use Rattle.records.specs.declared.Answer.the-variants as contents
 use Rattle.records.specs.Finding.{used}
 use Rattle.records.specs.Setup as records
-use Rattle.records.specs.Setup.{keepsRules, contentsAnswers}
+use Rattle.records.specs.Setup.{keepsRules, contentsNumber}
 use Rattle.records.proofs.Soundness.{sound-means}
 use Rattle.receiver.proofs.Soundness.{fresh-awaiting}
 use Rattle.card.specs.declared.Card.{Card}
-use Rattle.card.specs.declared.Answered.{Answered}
-use Rattle.card.specs.declared.Answer.the-variants.{Nothing, BroadcastAddress, BrokenRule, WrongLength}
-use Rattle.frame.specs.Addresses.{broadcast}
+use Rattle.card.specs.Parts.{Response}
 use Rattle.card.specs.Setup.{fresh, admittedWith, admitted, afterSetup, refusedSetup}
 use Rattle.history.specs.Book as book
 use Rattle.history.specs.Book.{setupOf}
 use Rattle.history.specs.Claim.{Arrays}
-use Rattle.octets.proofs.Impossible.{impossible}
 use Rattle.history.proofs.Notes.{first-noted}
 use Rattle.history.proofs.Agreement.{Agrees}
 
 module _ (address key : List ℕ) (given : Records) where
-  -- the card of an accepted setup, and what setup's checks say of its records
+  -- the card of an accepted setup, and what setup's checks say of its arguments
   pub record Accepted (c : Card) : Type 0 where
     pub card : c ≡ fresh address key given
     pub sound : records.Sound given
+    pub six : length address ≡ 6
+    pub eight : length key ≡ 8
+    pub own : broadcast address ≡ false
 
-  abbrev Admits : Answered → Type 0
-  Admits a = a .answer ≡ Nothing → Accepted (a .card)
+  abbrev Admits : Response → Type 0
+  Admits r = r .number ≡ none → Accepted (r .card)
 
-  by-contents : (a : ContentsAnswer) → contentsAnswers (used given) ≡ a → keepsRules given ≡ true → Admits (admittedWith a (fresh address key given))
-  unfolding admittedWith records.sound records.accepts
-  by-contents contents.Accepted e k h = record { card = refl; sound = sound-means given .0 (rw (k, e)) }
-  by-contents (contents.Refused refusal) e k h = impossible (cc)
+  refuses : {X : Type 0} (n : ℕ) → suc n ≡ none → X
+  refuses n h = let z : ⊥ = omega arith in absurd z
 
-  by-rules : (x : Bool) → keepsRules given ≡ x → Admits (cond x (admittedWith (contentsAnswers (used given)) (fresh address key given)) (refusedSetup BrokenRule))
-  by-rules true e h = by-contents (contentsAnswers (used given)) refl e h
-  by-rules false e h = impossible (cc)
+  module _ (six : length address ≡ 6) (eight : length key ≡ 8) where
+    by-contents : (n : ℕ) → contentsNumber (used given) ≡ n → keepsRules given ≡ true → broadcast address ≡ false → Admits (admittedWith n (fresh address key given))
+    unfolding admittedWith records.sound
+    by-contents zero e k own h = record { card = refl; sound = sound-means given .0 (rw (k, e)); six = six; eight = eight; own = own }
+    by-contents (suc n) e k own h = refuses n h
 
-  by-address : (x : Bool)
-      → Admits (cond x (refusedSetup BroadcastAddress) (cond (keepsRules given) (admittedWith (contentsAnswers (used given)) (fresh address key given)) (refusedSetup BrokenRule)))
-  by-address true h = impossible (cc)
-  by-address false h = by-rules (keepsRules given) refl h
+    by-rules : (x : Bool) → keepsRules given ≡ x → broadcast address ≡ false → Admits (cond x (admittedWith (contentsNumber (used given)) (fresh address key given)) (refusedSetup brokenRule))
+    by-rules true e own h = by-contents (contentsNumber (used given)) refl e own h
+    by-rules false e own h = refuses _ h
 
-  by-lengths : (x : Bool) → Admits (cond x (admitted address key given) (refusedSetup WrongLength))
+    by-address : (x : Bool) → broadcast address ≡ x
+        → Admits (cond x (refusedSetup wrongAddress) (cond (keepsRules given) (admittedWith (contentsNumber (used given)) (fresh address key given)) (refusedSetup brokenRule)))
+    by-address true e h = refuses _ h
+    by-address false e h = by-rules (keepsRules given) refl e h
+
+  by-lengths : (x : Bool) → (eqb (length address) 6 && eqb (length key) 8) ≡ x → Admits (cond x (admitted address key given) (refusedSetup wrongLength))
   unfolding admitted
-  by-lengths true h = by-address (broadcast address) h
-  by-lengths false h = impossible (cc)
+  by-lengths true e h =
+      let both = and-eq-true-iff (eqb (length address) 6) (eqb (length key) 8) .0 e in
+      by-address (eqb-true _ _ (both .0)) (eqb-true _ _ (both .1)) (broadcast address) refl h
+  by-lengths false e h = refuses _ h
 
   pub setup-accepted : Admits (afterSetup address key given)
   unfolding afterSetup
-  setup-accepted = by-lengths (eqb (length address) 6 && eqb (length key) 8)
+  setup-accepted = by-lengths (eqb (length address) 6 && eqb (length key) 8) refl
 
   pub fresh-agrees : Arrays given → (c : Card) → Accepted c → Agrees (setupOf address key given) c (book.fresh given)
   fresh-agrees arrays c a =
       rw (a .card)
       (record {
-        address = refl;
-        key = refl;
-        attributes = refl;
-        contents = first-noted given arrays (a .sound);
-        wait = refl;
+        station = record { address = refl; key = refl; attributes = refl; contents = first-noted given arrays (a .sound); wait = refl };
         reception = fresh-awaiting;
       })

@@ -8,21 +8,22 @@ use lib.Dec.{eqb, ltb}
 use lib.ListN.{length, replicate}
 use Rattle.octets.specs.Part.{same}
 use Rattle.des.specs.Des.{encipher}
+use Rattle.numbers.specs.Answer as answer
+use Rattle.numbers.specs.Answer.{Answer}
 use Rattle.frame.specs.declared.codes.Command.{Command}
 use Rattle.frame.specs.declared.codes.Command.the-variants.{Enq, Dat, Rec, Ech, Aut, Eos, Aso, Rso, Ib, Drj, Arj, Trf, Trb, Tra, Pre, Sel}
 use Rattle.frame.specs.declared.content.Fields.{Fields}
 use Rattle.frame.specs.Content.{fieldsOf, dataOf}
 use Rattle.receiver.specs.Receiving.{Reception, Awaiting, Outcome, Silent, Dropped, Complete, Step, onOctet, onGap}
-use Rattle.records.specs.declared.Access.{Access}
-use Rattle.records.specs.declared.Access.the-variants.{Meter, Programming, Transfer}
+use Rattle.records.specs.declared.Cause.the-variants as cause
+use Rattle.records.specs.declared.Cause.{Cause as WriteCause}
 use Rattle.records.specs.declared.Attributes.{Attributes}
 use Rattle.records.specs.declared.Record.{Record}
 use Rattle.records.specs.declared.Records.{Records}
-use Rattle.records.specs.declared.Found.{Found}
-use Rattle.records.specs.declared.Found.the-variants.{At, Refused}
 use Rattle.records.specs.Judging.{contents}
 use Rattle.records.specs.Finding.{used, attributesOf}
 use Rattle.records.specs.Writing.{grant}
+use Rattle.card.specs.Loan.{Loan}
 use Rattle.card.specs.Events.{Call, Octet, Gap, SessionEnd, MeterWrite}
 
 -- what setup gives besides the first contents
@@ -45,11 +46,11 @@ pub record Book : Type 0 where
   pub wait : Wait
   pub noted : ℕ → List ℕ
 
-abbrev pub receiving : Reception → Book → Book
-receiving r b = record { receiver = r; wait = b .wait; noted = b .noted }
+abbrev pub withReceiver : Reception → Book → Book
+withReceiver r b = record { receiver = r; wait = b .wait; noted = b .noted }
 
-abbrev pub waiting : Wait → Book → Book
-waiting w b = record { receiver = b .receiver; wait = w; noted = b .noted }
+abbrev pub withWait : Wait → Book → Book
+withWait w b = record { receiver = b .receiver; wait = w; noted = b .noted }
 
 -- the contents of the record with this TAB
 unfoldable pub contentsOf : List Record → ℕ → List ℕ
@@ -67,22 +68,23 @@ pub data Cause : Type 0 where
   Transferred : ℕ → Cause
   Broadcast : ℕ → Cause
 
--- what a record must be open to for the write; "A meter write tests 10 and then the data."
-abbrev pub accessOf : Cause → Access
-accessOf Metered = Meter
-accessOf (Programmed adp) = Programming
-accessOf (Transferred adp) = Transfer
-accessOf (Broadcast adp) = Transfer
+-- the same cause in the terms of `grant`
+abbrev pub causeOf : Cause → WriteCause
+causeOf Metered = cause.Meter
+causeOf (Programmed adp) = cause.Programmed adp
+causeOf (Transferred adp) = cause.Transferred adp
+causeOf (Broadcast adp) = cause.Broadcast adp
 
 -- the data last noted for the TAB u, after d for the TAB t unless the write is refused
-abbrev pub lastNoted : Found → ℕ → List ℕ → (ℕ → List ℕ) → ℕ → List ℕ
-lastNoted (At i) t d noted u = cond (eqb u t) d (noted u)
-lastNoted (Refused refusal) t d noted u = noted u
+abbrev pub lastNoted : Answer ℕ → ℕ → List ℕ → (ℕ → List ℕ) → ℕ → List ℕ
+lastNoted (answer.given i) t d noted u = cond (eqb u t) d (noted u)
+lastNoted (answer.refused n) t d noted u = noted u
+lastNoted (answer.refusedAt n offset) t d noted u = noted u
 
 -- "noted unless 10, 11, 7, 8 or 9 applies"
 unfoldable pub note : Setup → Cause → ℕ → List ℕ → Book → Book
 note s cause t d b =
-    record { receiver = b .receiver; wait = b .wait; noted = lastNoted (grant (s .attributes) (accessOf cause) t d) t d (b .noted) }
+    record { receiver = b .receiver; wait = b .wait; noted = lastNoted (grant (s .attributes) (causeOf cause) t d) t d (b .noted) }
 
 -- "AUT: if ADP is the wait's and ZA2 = DES(Ki, NA2), the wait's DATA is noted unless 10, 11, 7, 8 or 9 applies."
 unfoldable pub authenticated : Wait → Setup → Fields → Book → Book
@@ -90,51 +92,74 @@ authenticated None s f b = b
 authenticated (Exchange adp tab d na2) s f b =
     cond (eqb adp (f .adp) && same (f .za2) (encipher (s .key) na2)) (note s (Programmed adp) tab d b) b
 
+-- what a good frame is to the card: one of the six that it takes, or not taken
+pub data Role : Type 0 where
+  Reading : Role
+  Programming : Role
+  Authentication : Role
+  Transfer : Role
+  BroadcastTransfer : Role
+  Initialisation : Role
+  NotTaken : Role
+
+abbrev pub ifOwn : Setup → Fields → Role → Role
+ifOwn s f role = cond (same (f .ads) (s .address)) role NotTaken
+
+abbrev pub ifBroadcast : Fields → Role → Role
+ifBroadcast f role = cond (same (f .ads) (replicate 6 0)) role NotTaken
+
 -- "The card takes ENQ, REC, AUT and TRF with its own address, and TRB and IB with a broadcast address", which is all zero (004 4.4.8).
-abbrev pub ifOwn : Setup → Fields → Book → Book → Book
-ifOwn s f taken b = cond (same (f .ads) (s .address)) taken b
+unfoldable pub roleOf : Command → Setup → Fields → Role
+roleOf Enq s f = ifOwn s f Reading
+roleOf Rec s f = ifOwn s f Programming
+roleOf Aut s f = ifOwn s f Authentication
+roleOf Trf s f = ifOwn s f Transfer
+roleOf Trb s f = ifBroadcast f BroadcastTransfer
+roleOf Ib s f = ifBroadcast f Initialisation
+roleOf Dat s f = NotTaken
+roleOf Ech s f = NotTaken
+roleOf Eos s f = NotTaken
+roleOf Aso s f = NotTaken
+roleOf Rso s f = NotTaken
+roleOf Drj s f = NotTaken
+roleOf Arj s f = NotTaken
+roleOf Tra s f = NotTaken
+roleOf Pre s f = NotTaken
+roleOf Sel s f = NotTaken
 
-abbrev pub ifBroadcast : Fields → Book → Book → Book
-ifBroadcast f taken b = cond (same (f .ads) (replicate 6 0)) taken b
+-- "REC: the wait is its ADP, TAB, DATA and the number lent with its last octet." "TRF, TRB: DATA is noted on the same terms. All frames taken but
+-- REC leave no wait." Those not taken "do no more".
+unfoldable pub onRole : Role → Setup → Loan → Fields → List ℕ → Book → Book
+onRole Reading s loan f d b = withWait None b
+onRole Programming s loan f d b = withWait (Exchange (f .adp) (f .tab) d (loan .na2)) b
+onRole Authentication s loan f d b = authenticated (b .wait) s f (withWait None b)
+onRole Transfer s loan f d b = note s (Transferred (f .adp)) (f .tab) d (withWait None b)
+onRole BroadcastTransfer s loan f d b = note s (Broadcast (f .adp)) (f .tab) d (withWait None b)
+onRole Initialisation s loan f d b = withWait None b
+onRole NotTaken s loan f d b = b
 
--- A good frame, with the number lent with its last octet, its fields and its DATA. "REC: the wait is its ADP, TAB, DATA and the number lent with
--- its last octet." "TRF, TRB: DATA is noted on the same terms. All frames taken but REC leave no wait." Those not taken "do no more".
-unfoldable pub onFrame : Command → Setup → List ℕ → Fields → List ℕ → Book → Book
-onFrame Enq s number f d b = ifOwn s f (waiting None b) b
-onFrame Rec s number f d b = ifOwn s f (waiting (Exchange (f .adp) (f .tab) d number) b) b
-onFrame Aut s number f d b = ifOwn s f (authenticated (b .wait) s f (waiting None b)) b
-onFrame Trf s number f d b = ifOwn s f (note s (Transferred (f .adp)) (f .tab) d (waiting None b)) b
-onFrame Trb s number f d b = ifBroadcast f (note s (Broadcast (f .adp)) (f .tab) d (waiting None b)) b
-onFrame Ib s number f d b = ifBroadcast f (waiting None b) b
-onFrame Dat s number f d b = b
-onFrame Ech s number f d b = b
-onFrame Eos s number f d b = b
-onFrame Aso s number f d b = b
-onFrame Rso s number f d b = b
-onFrame Drj s number f d b = b
-onFrame Arj s number f d b = b
-onFrame Tra s number f d b = b
-onFrame Pre s number f d b = b
-onFrame Sel s number f d b = b
+-- a good frame, with what is lent with its last octet, its fields and its DATA
+unfoldable pub onFrame : Command → Setup → Loan → Fields → List ℕ → Book → Book
+onFrame k s loan f d b = onRole (roleOf k s f) s loan f d b
 
 -- "Octet, gap: by Receiving. Bad frames and those not taken do no more."
-unfoldable pub heardAs : Outcome → Setup → List ℕ → Book → Book
-heardAs Silent s number b = b
-heardAs (Dropped fault) s number b = b
-heardAs (Complete command o) s number b = onFrame command s number (fieldsOf command o) (dataOf command o) b
+unfoldable pub heardAs : Outcome → Setup → Loan → Book → Book
+heardAs Silent s loan b = b
+heardAs (Dropped fault) s loan b = b
+heardAs (Complete command o) s loan b = onFrame command s loan (fieldsOf command o) (dataOf command o) b
 
-abbrev pub heard : Step → Setup → List ℕ → Book → Book
-heard r s number b = heardAs (r .outcome) s number (receiving (r .next) b)
+abbrev pub heard : Step → Setup → Loan → Book → Book
+heard r s loan b = heardAs (r .outcome) s loan (withReceiver (r .next) b)
 
 -- 17: "reply or frame buffer under 128 octets, .. a lent key or number not of 8 octets"
-abbrev pub loanRefused : List ℕ → ℕ → Bool
-loanRefused number room = ltb room 128 || not (eqb (length number) 8)
+abbrev pub loanRefused : Loan → Bool
+loanRefused loan = ltb (loan .reply) 128 || not (eqb (length (loan .na2)) 8)
 
 -- "Refused with 17: no step; 12 can't occur." "Session end: receiver empty, no wait." "Meter write: noted unless 10, 7, 8 or 9 applies."
 unfoldable pub step : Setup → Book → Call → Book
-step s b (Octet o number room) = cond (loanRefused number room) b (heard (onOctet o (b .receiver)) s number b)
-step s b Gap = receiving (onGap (b .receiver) .next) b
-step s b SessionEnd = receiving Awaiting (waiting None b)
+step s b (Octet o loan) = cond (loanRefused loan) b (heard (onOctet o (b .receiver)) s loan b)
+step s b Gap = withReceiver (onGap (b .receiver) .next) b
+step s b SessionEnd = withReceiver Awaiting (withWait None b)
 step s b (MeterWrite t d) = note s Metered t d b
 
 -- the book after further calls

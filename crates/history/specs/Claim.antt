@@ -4,13 +4,14 @@ use Prim.Native.Nat.{ℕ, _<_}
 use mathlib.Core.Path.{_≡_}
 use mathlib.Core.List.{List, [], _∷_}
 use lib.ListN.{length}
+use Rattle.numbers.specs.Table.{none}
 use Rattle.records.specs.declared.Record.{Record}
 use Rattle.records.specs.declared.Records.{Records}
 use Rattle.records.specs.Judging.{contents}
 use Rattle.records.specs.Finding.{attributesOf, recordAt}
 use Rattle.card.specs.declared.Card.{Card}
-use Rattle.card.specs.declared.Answer.the-variants.{Nothing}
 use Rattle.card.specs.declared.Answered.{Answered}
+use Rattle.card.specs.Numbers.{answerNumber}
 use Rattle.card.specs.Setup.{afterSetup}
 use Rattle.card.specs.Events.{Call, after}
 use Rattle.history.specs.Book.{Book, bookOf}
@@ -36,8 +37,8 @@ pub record Arrays (s : Records) : Type 0 where
   pub each : length (s .each) ≡ 32
   pub storage : (i : ℕ) → i < 32 → length (recordAt s i .storage) ≡ 116
 
--- What setup and then a history give: setup's answer, the card after the history, and the claim where setup accepts.
+-- What setup and then a history give: setup's number, the card after the history, and the claim where setup accepts.
 pub record Replayed (address key : List ℕ) (given : Records) (h : List Call) (r : Answered) : Type 0 where
-  pub answer : r .answer ≡ afterSetup address key given .answer
+  pub number : answerNumber (r .answer) ≡ afterSetup address key given .number
   pub card : r .card ≡ run (afterSetup address key given .card) h
-  pub kept : r .answer ≡ Nothing → Kept given (r .card) (bookOf address key given h)
+  pub kept : answerNumber (r .answer) ≡ none → Kept given (r .card) (bookOf address key given h)

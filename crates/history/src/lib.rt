@@ -2,76 +2,50 @@
 ghost use mathlib.Core.Path.{_≡_};
 ghost use Rattle.card.specs.Events.{Octet, after};
 ghost use Rattle.history.specs.Claim.{run, Replayed};
-ghost use Rattle.history.specs.Encoding.{callOf, wholeAt, callAt, sizeAt, callsOf};
+ghost use Rattle.history.specs.Encoding.{callAt, callsOf};
+
+pub mod calls;
+
+use crate::calls::CallKind;
+use crate::calls::head_at;
+use crate::calls::text_at;
 use card::Answered;
 use card::Card;
 use records::Records;
 
-// One octet, with the number and a buffer of this length lent. What is replied is dropped.
-fn after_octet(card: Card, octet: u8, number: &[u8], room: u8) -> Card
-    ensures { λ r. ⌜ r ≡ after card (Octet octet (now (number .entry)) room) .card ⌝ }
+// One octet, with NA2 and a buffer of this length lent. What is replied is dropped.
+fn after_octet(card: Card, octet: u8, na2: &[u8], reply: u8) -> Card
+    ensures { λ r. ⌜ r ≡ after card (Octet octet (record { na2 = now (na2 .entry); reply = reply })) .card ⌝ }
 {
-    let mut reply = [0u8; 255];
-    let end = room as usize;
-    let stepped = card.octet(octet, number, &mut reply[..end]);
+    let mut buffer = [0u8; 255];
+    let end = reply as usize;
+    let stepped = card.octet(octet, na2, &mut buffer[..end]);
     let next = stepped.card;
     next
-}
-
-fn after_call(card: Card, kind: u8, argument: u8, room: u8, text: &[u8]) -> Card
-    ensures { λ r. ⌜ r ≡ after card (callOf kind argument room (now (text .entry))) .card ⌝ }
-{
-    if kind == 0 {
-        return after_octet(card, argument, text, room);
-    }
-    if kind == 1 {
-        let written = card.meter_write(argument, text);
-        let next = written.card;
-        return next;
-    }
-    if kind == 2 {
-        let ended = card.session_end();
-        let next = ended.card;
-        return next;
-    }
-    let gap = card.gap();
-    let next = gap.card;
-    next
-}
-
-// Whether the octets begin with a whole call.
-fn whole_at(history: &[u8]) -> bool
-    ensures { λ r. ⌜ r ≡ wholeAt (now (history .entry)) ⌝ }
-{
-    let n = history.len();
-    if n < 4 {
-        return false;
-    }
-    let length = history[3] as usize;
-    length <= n - 4
-}
-
-// How many of the octets the first call takes.
-fn size_at(history: &[u8]) -> usize
-    ensures { λ r. ⌜ r ≡ sizeAt (now (history .entry)) ⌝ }
-{
-    if !whole_at(history) {
-        return history.len();
-    }
-    4 + history[3] as usize
 }
 
 // The card after the call that the octets begin with.
 fn after_first(card: Card, history: &[u8]) -> Card
     ensures { λ r. ⌜ r ≡ after card (callAt (now (history .entry))) .card ⌝ }
 {
-    if !whole_at(history) {
-        let gap = card.gap();
-        let next = gap.card;
-        return next;
+    let head = head_at(history);
+    let text = text_at(history);
+    let kind = head.kind;
+    match kind {
+        CallKind::Octet => after_octet(card, head.argument, text, head.reply),
+        CallKind::MeterWrite => {
+            let written = card.meter_write(head.argument, text);
+            written.card
+        }
+        CallKind::SessionEnd => {
+            let ended = card.session_end();
+            ended.card
+        }
+        CallKind::Gap => {
+            let gap = card.gap();
+            gap.card
+        }
     }
-    let end = 4 + history[3] as usize;
-    after_call(card, history[0], history[1], history[2], &history[4..end])
 }
 
 fn run(card: Card, history: &[u8]) -> Card
@@ -81,8 +55,10 @@ fn run(card: Card, history: &[u8]) -> Card
     let mut at = 0;
     while at < history.len() {
         let rest = &history[at..];
+        let head = head_at(rest);
+        let size = head.size;
         c = after_first(c, rest);
-        at += size_at(rest);
+        at += size.0;
     }
     c
 }

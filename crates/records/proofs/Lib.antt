@@ -2,9 +2,9 @@ pub mod Grants
 pub mod InUse
 pub mod Limits
 pub mod Places
+pub mod Refusals
 pub mod Shape
 pub mod Soundness
 mod Tests
-mod Variants
 mod Walks
 pub mod Writes

@@ -1,19 +1,19 @@
 -- Laws of the octet limit: what accepted data and accepted contents say of a number of octets.
-use Prim.Native.Nat.{ℕ, _≤_}
-use mathlib.Core.Bool.{Bool, true, false, cond}
+use Prim.Native.Nat.{ℕ, _≤_, _<_}
+use mathlib.Core.Bool.{Bool, true, false, cond, _||_}
 use mathlib.Core.List.{List}
 use mathlib.Core.Path.{_≡_, refl}
+use native.Mathlib.Omega.{arith}
 use lib.Dec.{ltb}
 use lib.ListN.{length}
-use borrow.Author.Tests.{ltb-false, le-ltb}
+use borrow.Author.Tests.{ltb-false, lt-ltb, le-ltb}
+use Rattle.numbers.specs.Table.{none, tooLong}
+use Rattle.numbers.specs.Answer.{Answer, refused, numberOf}
+use Rattle.numbers.specs.declared.Characters.{Characters}
 use Rattle.numbers.specs.declared.Octets.{Octets}
 use Rattle.records.specs.declared.Attributes.{Attributes}
-use Rattle.records.specs.declared.Refusal.the-variants.{TooLong}
-use Rattle.records.specs.declared.Answer.the-variants.{Accepted, Refused}
-use Rattle.records.specs.declared.Answer.{Answer}
 use Rattle.records.specs.Judging.{lengthOf, overLong, kindAnswer, acceptable}
 use Rattle.records.proofs.Tests.{neither}
-use Rattle.records.proofs.Variants.{not-both}
 
 module _ (limit octets : Octets) where
   tests : overLong limit octets ≡ false → (ltb 116 (octets .0) ≡ false) × (ltb (limit .0) (octets .0) ≡ false)
@@ -28,13 +28,20 @@ module _ (limit octets : Octets) where
   pub not-over-long : octets .0 ≤ 116 → octets .0 ≤ limit .0 → overLong limit octets ≡ false
   not-over-long h k = rw (le-ltb 116 (octets .0) h, le-ltb (limit .0) (octets .0) k)
 
--- an answer that accepts passed its first test
-pub passed : (b : Bool) (answer : Answer) → cond b (Refused TooLong) answer ≡ Accepted → (b ≡ false) × (answer ≡ Accepted)
-passed true answer h = not-both TooLong h
+  pub over-limit : limit .0 < octets .0 → overLong limit octets ≡ true
+  over-limit h = rw (lt-ltb (limit .0) (octets .0) h) (either (ltb 116 (octets .0)))
+    where
+      either : (b : Bool) → b || true ≡ true
+      either true = refl
+      either false = refl
+
+-- an answer without a number passed its first test
+pub passed : (b : Bool) (answer : Answer Characters) → numberOf (cond b (refused tooLong) answer) ≡ none → (b ≡ false) × (numberOf answer ≡ none)
+passed true answer h = let z : ⊥ = omega arith in absurd z
 passed false answer h = (refl, h)
 
 -- accepted data has at most 116 octets, and at most as many as the limit allows
-module _ (a : Attributes) (d : List ℕ) (h : acceptable a d ≡ Accepted) where
+module _ (a : Attributes) (d : List ℕ) (h : numberOf (acceptable a d) ≡ none) where
   fitting : overLong (a .limit) (lengthOf d) ≡ false
   unfolding acceptable
   fitting = passed (overLong (a .limit) (lengthOf d)) (kindAnswer (a .kind) d) h .0

@@ -8,9 +8,9 @@ use borrow.Author.Needs.{length-unmapped}
 use mir.Val.{Val}
 use denote.Array.{each}
 use denote.Shadow.{shadow}
+use Rattle.numbers.specs.Answer.{given}
 use Rattle.records.specs.declared.Record.{Record}
 use Rattle.records.specs.declared.Records.{Records}
-use Rattle.records.specs.declared.Found.the-variants.{At}
 use Rattle.records.specs.Finding.{used, attributesOf, blank, recordAt, find}
 use Rattle.records.proofs.InUse.{used-length}
 use Rattle.records.proofs.Places.{found-used}
@@ -38,5 +38,5 @@ module _ (s : Records) (vs : List Val) (own : shadow (S.the-row .own s vs)) wher
   record-storage i h = element-length (s .each) (own .1 .1 .1 .0 .0) i (own .1 .1 .1 .0 .1 .1) (omega (arith, each-length))
 
   -- what is found is one of the array
-  pub found-element : (t i : ℕ) → find (attributesOf s) t ≡ At i → i < 32
+  pub found-element : (t i : ℕ) → find (attributesOf s) t ≡ given i → i < 32
   found-element t i e = omega (arith, found-used s t i e, used-length s each-length)

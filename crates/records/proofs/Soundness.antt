@@ -1,21 +1,21 @@
 -- The tests of the rules and of soundness hold exactly if `Rules` and `Sound` do.
 use Prim.Native.Nat.{ℕ, _≤_, _<_}
-use mathlib.Core.Bool.{true, _&&_, and-eq-true-iff, false≢true}
+use mathlib.Core.Bool.{true, _&&_, and-eq-true-iff}
 use mathlib.Core.Logic.{_↔_}
-use mathlib.Core.Path.{_≡_, refl, sym, ap, _∙_}
+use mathlib.Core.Path.{_≡_, sym, ap, _∙_}
 use native.Mathlib.Omega.{arith}
-use lib.Dec.{leb}
+use lib.Dec.{leb, eqb}
 use lib.ListN.{length, getD}
 use lib.Seq.{length-take-le}
-use borrow.Author.Tests.{leb-true, le-leb}
+use borrow.Author.Tests.{leb-true, le-leb, eqb-true}
+use Rattle.numbers.specs.Table.{none}
+use Rattle.numbers.specs.Answer.{numberOf}
 use Rattle.records.specs.declared.Attributes.{Attributes}
 use Rattle.records.specs.declared.Record.{Record}
 use Rattle.records.specs.declared.Records.{Records}
-use Rattle.records.specs.declared.Answer.the-variants.{Accepted, Refused}
-use Rattle.records.specs.declared.Answer.{Answer}
 use Rattle.records.specs.Judging.{overLong, acceptable, contents, contentsAnswer}
 use Rattle.records.specs.Finding.{used, attributesOf, blankAttributes, recordAt}
-use Rattle.records.specs.Setup.{characterLimit, keepsLimits, allKeepLimits, tabsApart, keepsRules, contentsAnswers, accepts, sound, Rules, Sound, empty}
+use Rattle.records.specs.Setup.{characterLimit, keepsLimits, allKeepLimits, tabsApart, keepsRules, contentsNumber, sound, Rules, Sound, empty}
 use Rattle.records.proofs.InUse.{attributes-length, used-at, attributes-at}
 use Rattle.records.proofs.Limits.{within-limit, not-over-long, passed}
 use Rattle.records.proofs.Tests.{limits-every, contents-every, apart-every}
@@ -61,19 +61,14 @@ module _ (s : Records) where
   pub rules-means : (keepsRules s ≡ true) ↔ Rules s
   rules-means = (rules-of, rules-test)
 
-accepted : (a : Answer) → accepts a ≡ true → a ≡ Accepted
-unfolding accepts
-accepted Accepted h = refl
-accepted (Refused refusal) h = absurd (false≢true h)
-
 module _ (r : Record) where
-  contents-of : contentsAnswer r ≡ Accepted → (r .length .0 ≤ r .attributes .limit .0) × (acceptable (r .attributes) (contents r) ≡ Accepted)
+  contents-of : numberOf (contentsAnswer r) ≡ none → (r .length .0 ≤ r .attributes .limit .0) × (numberOf (acceptable (r .attributes) (contents r)) ≡ none)
   unfolding contentsAnswer
   contents-of h =
       let tests = passed (overLong (r .attributes .limit) (r .length)) (acceptable (r .attributes) (contents r)) h in
       (within-limit (r .attributes .limit) (r .length) (tests .0), tests .1)
 
-  contents-test : r .attributes .limit .0 ≤ 116 → r .length .0 ≤ r .attributes .limit .0 → acceptable (r .attributes) (contents r) ≡ Accepted → contentsAnswer r ≡ Accepted
+  contents-test : r .attributes .limit .0 ≤ 116 → r .length .0 ≤ r .attributes .limit .0 → numberOf (acceptable (r .attributes) (contents r)) ≡ none → numberOf (contentsAnswer r) ≡ none
   unfolding contentsAnswer
   contents-test room h k = rw (not-over-long (r .attributes .limit) (r .length) (omega arith) h) k
 
@@ -81,12 +76,12 @@ module _ (s : Records) where
   sound-of : sound s ≡ true → Sound s
   unfolding sound
   sound-of h =
-      let tests = and-eq-true-iff (keepsRules s) (accepts (contentsAnswers (used s))) .0 h in
-      let each : (i : ℕ) (k : i < length (used s)) → contentsAnswer (recordAt s i) ≡ Accepted = λ i k. ap contentsAnswer (sym (used-at s i k)) ∙ contents-every (used s) .0 (accepted _ (tests .1)) i k in
+      let tests = and-eq-true-iff (keepsRules s) (eqb (contentsNumber (used s)) none) .0 h in
+      let each : (i : ℕ) (k : i < length (used s)) → numberOf (contentsAnswer (recordAt s i)) ≡ none = λ i k. ap (λ (r : Record). numberOf (contentsAnswer r)) (sym (used-at s i k)) ∙ contents-every (used s) .0 (eqb-true _ _ (tests .1)) i k in
       record { rules = rules-means s .0 (tests .0); lengths = λ i k. contents-of (recordAt s i) (each i k) .0; accepted = λ i k. contents-of (recordAt s i) (each i k) .1 }
 
   sound-test : Sound s → sound s ≡ true
-  unfolding sound accepts
+  unfolding sound
   sound-test h =
       rw (
         rules-means s .1 (h .rules),

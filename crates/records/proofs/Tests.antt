@@ -8,14 +8,13 @@ use native.Mathlib.Omega.{arith}
 use lib.Dec.{eqb}
 use lib.ListN.{length, getD}
 use borrow.Author.Tests.{ne-eqb, eqb-false, not-true}
+use Rattle.numbers.specs.Table.{none}
+use Rattle.numbers.specs.Answer.{numberOf}
 use Rattle.records.specs.declared.Attributes.{Attributes}
 use Rattle.records.specs.declared.Record.{Record}
-use Rattle.records.specs.declared.Answer.the-variants.{Accepted, Refused}
-use Rattle.records.specs.declared.Answer.{Answer}
 use Rattle.records.specs.Judging.{contentsAnswer}
 use Rattle.records.specs.Finding.{blankAttributes, blank}
-use Rattle.records.specs.Setup.{keepsLimits, allKeepLimits, present, tabsApart, first, contentsAnswers}
-use Rattle.records.proofs.Variants.{not-both}
+use Rattle.records.specs.Setup.{keepsLimits, allKeepLimits, present, tabsApart, first, contentsNumber}
 
 -- a statement about a list that goes by head and tail is one about each element
 module _ {A : Type 0} (past : A) (P : A → Type 0) (All : List A → Type 0) (nil : All []) (cons : (x : A) (l : List A) → (P x × All l) ↔ All (x ∷ l)) where
@@ -41,18 +40,18 @@ unfolding allKeepLimits
 limits-every = each-every blankAttributes (λ a. keepsLimits a ≡ true) (λ l. allKeepLimits l ≡ true) refl limits-cons
 
 -- the contents of every record are accepted
-both : (a b : Answer) → ((a ≡ Accepted) × (b ≡ Accepted)) ↔ (first a b ≡ Accepted)
+both : (n m : ℕ) → ((n ≡ none) × (m ≡ none)) ↔ (first n m ≡ none)
 unfolding first
-both Accepted b = (λ h. h .1, λ h. (refl, h))
-both (Refused refusal) b = (λ h. h .0, λ h. (h, not-both refusal h))
+both zero m = (λ h. h .1, λ h. (refl, h))
+both (suc n) m = (λ h. h .0, λ h. let z : ⊥ = omega arith in absurd z)
 
-contents-cons : (r : Record) (l : List Record) → ((contentsAnswer r ≡ Accepted) × (contentsAnswers l ≡ Accepted)) ↔ (contentsAnswers (r ∷ l) ≡ Accepted)
-unfolding contentsAnswers
-contents-cons r l = both (contentsAnswer r) (contentsAnswers l)
+contents-cons : (r : Record) (l : List Record) → ((numberOf (contentsAnswer r) ≡ none) × (contentsNumber l ≡ none)) ↔ (contentsNumber (r ∷ l) ≡ none)
+unfolding contentsNumber
+contents-cons r l = both (numberOf (contentsAnswer r)) (contentsNumber l)
 
-pub contents-every : (l : List Record) → (contentsAnswers l ≡ Accepted) ↔ ((i : ℕ) → i < length l → contentsAnswer (getD l i blank) ≡ Accepted)
-unfolding contentsAnswers
-contents-every = each-every blank (λ r. contentsAnswer r ≡ Accepted) (λ l. contentsAnswers l ≡ Accepted) refl contents-cons
+pub contents-every : (l : List Record) → (contentsNumber l ≡ none) ↔ ((i : ℕ) → i < length l → numberOf (contentsAnswer (getD l i blank)) ≡ none)
+unfolding contentsNumber
+contents-every = each-every blank (λ r. numberOf (contentsAnswer r) ≡ none) (λ l. contentsNumber l ≡ none) refl contents-cons
 
 -- a TAB that is not present stands at no index
 pub neither : (a b : Bool) → a || b ≡ false → (a ≡ false) × (b ≡ false)

@@ -8,18 +8,23 @@ use lib.Dec.{eqb}
 use lib.ListN.{length, drop, getD, set, replicate, getD-replicate, drop-of-length-le}
 use lib.Seq.{getD-set-same, getD-set-other}
 use borrow.Author.Tests.{eqb-true, eqb-false}
+use Rattle.numbers.specs.Table.{none}
+use Rattle.numbers.specs.Answer.{numberOf}
 use Rattle.records.specs.declared.Attributes.{Attributes}
 use Rattle.records.specs.declared.Records.{Records}
-use Rattle.records.specs.declared.Refusal.{Refusal}
-use Rattle.records.specs.declared.Answer.the-variants.{Accepted, Refused}
 use Rattle.records.specs.Judging.{contentsAnswer}
 use Rattle.records.specs.Finding.{used, attributesOf, recordAt}
-use Rattle.records.specs.Setup.{keepsLimits, allKeepLimits, present, tabsApart, first, contentsAnswers}
+use Rattle.records.specs.Setup.{keepsLimits, allKeepLimits, present, tabsApart, first, contentsNumber}
 use Rattle.records.proofs.InUse.{used-next, attributes-next, attributes-length}
 
 -- the marks of the TABs that a list of records has
 abbrev pub Marked : List Bool → List Attributes → Type 0
 Marked seen l = (t : ℕ) → t < 256 → getD seen t false ≡ present t l
+
+first-stands : (n next : ℕ) → none < n → first n next ≡ n
+unfolding first
+first-stands zero next p = let z : ⊥ = omega arith in absurd z
+first-stands (suc n) next p = refl
 
 module _ (s : Records) (i : ℕ) (h : i < length (used s)) where
   pub limits-pass : keepsLimits (recordAt s i .attributes) ≡ true → allKeepLimits (drop i (attributesOf s)) ≡ allKeepLimits (drop (suc i) (attributesOf s))
@@ -30,13 +35,13 @@ module _ (s : Records) (i : ℕ) (h : i < length (used s)) where
   unfolding allKeepLimits
   limits-stop e = rw (attributes-next s i h, e)
 
-  pub contents-pass : contentsAnswer (recordAt s i) ≡ Accepted → contentsAnswers (drop i (used s)) ≡ contentsAnswers (drop (suc i) (used s))
-  unfolding contentsAnswers first
+  pub contents-pass : numberOf (contentsAnswer (recordAt s i)) ≡ none → contentsNumber (drop i (used s)) ≡ contentsNumber (drop (suc i) (used s))
+  unfolding contentsNumber first
   contents-pass e = rw (used-next s i h, e)
 
-  pub contents-stop : (refusal : Refusal) → contentsAnswer (recordAt s i) ≡ Refused refusal → contentsAnswers (drop i (used s)) ≡ Refused refusal
-  unfolding contentsAnswers first
-  contents-stop refusal e = rw (used-next s i h, e)
+  pub contents-stop : (n : ℕ) → numberOf (contentsAnswer (recordAt s i)) ≡ n → none < n → contentsNumber (drop i (used s)) ≡ n
+  unfolding contentsNumber
+  contents-stop n e p = rw (used-next s i h, e) (first-stands n _ p)
 
   apart-pass : present (recordAt s i .attributes .tab) (drop (suc i) (attributesOf s)) ≡ false → tabsApart (drop i (attributesOf s)) ≡ tabsApart (drop (suc i) (attributesOf s))
   unfolding tabsApart
@@ -60,8 +65,8 @@ module _ (s : Records) (i : ℕ) (h : length (used s) ≤ i) where
   unfolding present
   marks-none t k = rw (drop-of-length-le (attributesOf s) {i = i} (omega (arith, attributes-length s))) (getD-replicate 256 t false false k)
 
-  pub contents-end : contentsAnswers (drop i (used s)) ≡ Accepted
-  unfolding contentsAnswers
+  pub contents-end : contentsNumber (drop i (used s)) ≡ none
+  unfolding contentsNumber
   contents-end = rw (drop-of-length-le (used s) {i = i} h)
 
 -- a TAB that stands twice in the rest stands twice in the whole

@@ -6,18 +6,15 @@ use mathlib.Core.Path.{_≡_, refl, sym, ap, _∙_}
 use native.Mathlib.Omega.{arith}
 use lib.Dec.{eqb}
 use lib.ListN.{length, take, drop, getD, set, length-take}
-use lib.Seq.{getD-set-same, getD-set-other, take-append-seam, drop-append-seam}
+use lib.Seq.{getD-set-same, getD-set-other}
 use borrow.Author.Tests.{eqb-true, eqb-false}
+use Rattle.octets.proofs.Splice.{take-fronted, drop-fronted}
+use Rattle.numbers.specs.Table.{none, tooLong, notOpen}
+use Rattle.numbers.specs.Answer.{Answer, given, refused, refusedAt, numberOf}
 use Rattle.records.specs.declared.Attributes.{Attributes}
 use Rattle.records.specs.declared.Record.{Record}
 use Rattle.records.specs.declared.Records.{Records}
-use Rattle.records.specs.declared.Access.{Access}
-use Rattle.records.specs.declared.Refusal.{Refusal}
-use Rattle.records.specs.declared.Found.the-variants as found
-use Rattle.records.specs.declared.Found.{Found}
-use Rattle.records.specs.declared.Answer.the-variants as answer
-use Rattle.records.specs.declared.Answer.{Answer}
-use Rattle.records.specs.Numbers.{foundAnswer}
+use Rattle.records.specs.declared.Cause.{Cause}
 use Rattle.records.specs.Judging.{lengthOf, acceptable, contents}
 use Rattle.records.specs.Finding.{used, attributesOf, blank, recordAt}
 use Rattle.records.specs.Writing.{grant, hold, store, storeWhen, write}
@@ -26,11 +23,11 @@ use Rattle.records.proofs.Grants.{Grant, granted-means}
 use Rattle.records.proofs.InUse.{attributes-length, attributes-at}
 use Rattle.records.proofs.Limits.{accepted-limit}
 use Rattle.records.proofs.Places.{found-used, found-tab}
-use Rattle.records.proofs.Variants.{not-both}
+use Rattle.records.proofs.Refusals.{Bounded, number-bounded, grant-bounded}
 
 -- what a record holds after it was given data
 pub holding-contents : (d : List ℕ) (r : Record) → contents (hold r d) ≡ d
-holding-contents d r = take-append-seam d (drop (length d) (r .storage))
+holding-contents d r = take-fronted d (r .storage)
 
 attributes-stay : (n : ℕ) (l : List Record) (i : ℕ) (d : List ℕ) → map (λ r. r .attributes) (take n (set l i (hold (getD l i blank) d))) ≡ map (λ r. r .attributes) (take n l)
 attributes-stay zero l i d = refl
@@ -53,15 +50,15 @@ module _ (s : Records) (i : ℕ) (d : List ℕ) where
   stored-other j h = getD-set-other (s .each) i j _ blank h
 
 -- the record that a grant names has the TAB that was asked for
-module _ (s : Records) (access : Access) (t : ℕ) (d : List ℕ) (i : ℕ) (g : Grant (attributesOf s) access t d i) where
+module _ (s : Records) (cause : Cause) (t : ℕ) (d : List ℕ) (i : ℕ) (g : Grant (attributesOf s) cause t d i) where
   grant-used : i < length (used s)
   grant-used = found-used s t i (g .exists)
 
   grant-tab : recordAt s i .attributes .tab ≡ t
   grant-tab = ap (λ (a : Attributes). a .tab) (sym (attributes-at s i grant-used)) ∙ found-tab (attributesOf s) t i (g .exists)
 
-  grant-accepted : acceptable (recordAt s i .attributes) d ≡ answer.Accepted
-  grant-accepted = ap (λ (a : Attributes). acceptable a d) (sym (attributes-at s i grant-used)) ∙ g .accepted
+  grant-accepted : numberOf (acceptable (recordAt s i .attributes) d) ≡ none
+  grant-accepted = ap (λ (a : Attributes). numberOf (acceptable a d)) (sym (attributes-at s i grant-used)) ∙ g .accepted
 
   -- a record after the write: the one with the data, or one as it was
   after : (P : Record → Type 0) (j : ℕ) → (j ≡ i → P (hold (recordAt s i) d)) → P (recordAt s j) → P (recordAt (store s i d) j)
@@ -92,64 +89,67 @@ module _ (s : Records) (access : Access) (t : ℕ) (d : List ℕ) (i : ℕ) (g :
         rules = stored-rules (h .rules);
         lengths = λ j p. after (λ r. r .length .0 ≤ r .attributes .limit .0) j (λ e. accepted-limit (recordAt s i .attributes) d grant-accepted) (h .lengths j (before p));
         accepted =
-            λ j p. after (λ r. acceptable (r .attributes) (contents r) ≡ answer.Accepted) j (λ e. rw (holding-contents d (recordAt s i)) grant-accepted) (h .accepted j (before p));
+            λ j p. after (λ r. numberOf (acceptable (r .attributes) (contents r)) ≡ none) j (λ e. rw (holding-contents d (recordAt s i)) grant-accepted) (h .accepted j (before p));
       }
 
 -- a write is one that was granted, or is refused and leaves the records
-module _ (s : Records) (access : Access) (t : ℕ) (d : List ℕ) where
-  pub write-cases : (P : Records → Answer → Type 0) → ((i : ℕ) → Grant (attributesOf s) access t d i → P (store s i d) answer.Accepted) → ((refusal : Refusal) → P s (answer.Refused refusal))
-      → P (write s access t d .records) (write s access t d .answer)
-  unfolding storeWhen foundAnswer
-  write-cases P granted refused = go (grant (attributesOf s) access t d) refl
+module _ (s : Records) (cause : Cause) (t : ℕ) (d : List ℕ) where
+  pub write-cases : (P : Records → ℕ → Type 0) → ((i : ℕ) → Grant (attributesOf s) cause t d i → P (store s i d) none) → ((n : ℕ) → tooLong ≤ n → P s n)
+      → P (write s cause t d .records) (write s cause t d .number)
+  unfolding storeWhen
+  write-cases P granted refusal = go (grant (attributesOf s) cause t d) refl (grant-bounded (attributesOf s) cause t d)
     where
-      go : (f : Found) → grant (attributesOf s) access t d ≡ f → P (storeWhen s d f) (foundAnswer f)
-      go (found.At i) e = granted i (granted-means (attributesOf s) access t d i e)
-      go (found.Refused refusal) e = refused refusal
+      go : (g : Answer ℕ) → grant (attributesOf s) cause t d ≡ g → Bounded g → P (storeWhen s d g) (numberOf g)
+      go (given i) e h = granted i (granted-means (attributesOf s) cause t d i .0 e)
+      go (refused n) e h = refusal n (h .0)
+      go (refusedAt n offset) e h = absurd h
 
   -- no write alters the count or an attribute
-  pub write-count : write s access t d .records .count ≡ s .count
-  write-count = write-cases (λ next said. next .count ≡ s .count) (λ i g. refl) (λ refusal. refl)
+  pub write-count : write s cause t d .records .count ≡ s .count
+  write-count = write-cases (λ next n. next .count ≡ s .count) (λ i g. refl) (λ n h. refl)
 
-  pub write-attributes : attributesOf (write s access t d .records) ≡ attributesOf s
-  write-attributes = write-cases (λ next said. attributesOf next ≡ attributesOf s) (λ i g. stored-attributes s i d) (λ refusal. refl)
+  pub write-attributes : attributesOf (write s cause t d .records) ≡ attributesOf s
+  write-attributes = write-cases (λ next n. attributesOf next ≡ attributesOf s) (λ i g. stored-attributes s i d) (λ n h. refl)
+
+  pub write-number : write s cause t d .number ≤ notOpen
+  write-number = number-bounded (grant (attributesOf s) cause t d) (grant-bounded (attributesOf s) cause t d)
 
   -- a refused write changes nothing
-  pub write-refused : (refusal : Refusal) → write s access t d .answer ≡ answer.Refused refusal → write s access t d .records ≡ s
-  write-refused refusal =
-      write-cases (λ next said. said ≡ answer.Refused refusal → next ≡ s) (λ i g e. not-both refusal (sym e)) (λ other e. refl)
+  pub write-refused : (write s cause t d .number ≡ none → ⊥) → write s cause t d .records ≡ s
+  write-refused = write-cases (λ next n. (n ≡ none → ⊥) → next ≡ s) (λ i g e. absurd (e refl)) (λ n h e. refl)
 
   -- a granted write makes the record with the TAB hold the data
-  pub write-holds : Rules s → (j : ℕ) → j < length (used s) → recordAt s j .attributes .tab ≡ t → write s access t d .answer ≡ answer.Accepted → recordAt (write s access t d .records) j ≡ hold (recordAt s j) d
+  pub write-holds : Rules s → (j : ℕ) → j < length (used s) → recordAt s j .attributes .tab ≡ t → write s cause t d .number ≡ none → recordAt (write s cause t d .records) j ≡ hold (recordAt s j) d
   write-holds rules j h tab =
-      write-cases (λ next said. said ≡ answer.Accepted → recordAt next j ≡ hold (recordAt s j) d)
+      write-cases (λ next n. n ≡ none → recordAt next j ≡ hold (recordAt s j) d)
       (λ i g e.
-      let same : j ≡ i = rules .apart j i h (grant-used s access t d i g) (tab ∙ sym (grant-tab s access t d i g)) in
-      rw (same, stored-here s i d (grant-used s access t d i g)))
-      (λ refusal e. not-both refusal e)
+      let same : j ≡ i = rules .apart j i h (grant-used s cause t d i g) (tab ∙ sym (grant-tab s cause t d i g)) in
+      rw (same, stored-here s i d (grant-used s cause t d i g)))
+      (λ n h e. let z : ⊥ = omega arith in absurd z)
 
-  pub write-contents : Rules s → (j : ℕ) → j < length (used s) → recordAt s j .attributes .tab ≡ t → write s access t d .answer ≡ answer.Accepted
-      → (contents (recordAt (write s access t d .records) j) ≡ d) × (recordAt (write s access t d .records) j .length ≡ lengthOf d)
+  pub write-contents : Rules s → (j : ℕ) → j < length (used s) → recordAt s j .attributes .tab ≡ t → write s cause t d .number ≡ none
+      → (contents (recordAt (write s cause t d .records) j) ≡ d) × (recordAt (write s cause t d .records) j .length ≡ lengthOf d)
   write-contents rules j h tab granted = rw (write-holds rules j h tab granted) (holding-contents d (recordAt s j), refl)
 
   -- a write leaves every record with another TAB, and every record that is not in use
-  pub write-others : (j : ℕ) → (j < length (used s) → recordAt s j .attributes .tab ≡ t → ⊥) → recordAt (write s access t d .records) j ≡ recordAt s j
+  pub write-others : (j : ℕ) → (j < length (used s) → recordAt s j .attributes .tab ≡ t → ⊥) → recordAt (write s cause t d .records) j ≡ recordAt s j
   write-others j other =
-      write-cases (λ next said. recordAt next j ≡ recordAt s j)
+      write-cases (λ next n. recordAt next j ≡ recordAt s j)
       (λ i g.
       stored-other s i d j
-      (λ same. other (rw same (grant-used s access t d i g)) (ap (λ (k : ℕ). recordAt s k .attributes .tab) same ∙ grant-tab s access t d i g)))
-      (λ refusal. refl)
+      (λ same. other (rw same (grant-used s cause t d i g)) (ap (λ (k : ℕ). recordAt s k .attributes .tab) same ∙ grant-tab s cause t d i g)))
+      (λ n h. refl)
 
   -- no write alters an octet of storage past its data
-  pub write-rest : (j : ℕ) → drop (length d) (recordAt (write s access t d .records) j .storage) ≡ drop (length d) (recordAt s j .storage)
+  pub write-rest : (j : ℕ) → drop (length d) (recordAt (write s cause t d .records) j .storage) ≡ drop (length d) (recordAt s j .storage)
   write-rest j =
-      write-cases (λ next said. drop (length d) (recordAt next j .storage) ≡ drop (length d) (recordAt s j .storage))
+      write-cases (λ next n. drop (length d) (recordAt next j .storage) ≡ drop (length d) (recordAt s j .storage))
       (λ i g.
-      after s access t d i g (λ r. drop (length d) (r .storage) ≡ drop (length d) (recordAt s j .storage)) j
-      (λ same. drop-append-seam d (drop (length d) (recordAt s i .storage)) ∙ ap (λ (k : ℕ). drop (length d) (recordAt s k .storage)) (sym same))
+      after s cause t d i g (λ r. drop (length d) (r .storage) ≡ drop (length d) (recordAt s j .storage)) j
+      (λ same. drop-fronted d (recordAt s i .storage) ∙ ap (λ (k : ℕ). drop (length d) (recordAt s k .storage)) (sym same))
       refl)
-      (λ refusal. refl)
+      (λ n h. refl)
 
   -- sound records stay sound
-  pub write-sound : Sound s → Sound (write s access t d .records)
-  write-sound h = write-cases (λ next said. Sound next) (λ i g. stored-sound s access t d i g h) (λ refusal. h)
+  pub write-sound : Sound s → Sound (write s cause t d .records)
+  write-sound h = write-cases (λ next n. Sound next) (λ i g. stored-sound s cause t d i g h) (λ n p. h)

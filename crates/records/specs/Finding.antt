@@ -4,13 +4,12 @@ use mathlib.Core.Bool.{false, cond}
 use mathlib.Core.List.{List, [], _∷_, map}
 use lib.Dec.{ltb, eqb}
 use lib.ListN.{length, take, getD}
+use Rattle.numbers.specs.Table.{noRecord, notOpen}
+use Rattle.numbers.specs.Answer.{Answer, given, refused, whenGiven}
 use Rattle.records.specs.declared.Kind.the-variants.{Raw}
 use Rattle.records.specs.declared.Attributes.{Attributes}
 use Rattle.records.specs.declared.Record.{Record}
 use Rattle.records.specs.declared.Records.{Records}
-use Rattle.records.specs.declared.Refusal.the-variants.{NoRecord, NotOpen}
-use Rattle.records.specs.declared.Found.the-variants.{At, Refused}
-use Rattle.records.specs.declared.Found.{Found}
 
 -- the records in use
 abbrev pub used : Records → List Record
@@ -36,14 +35,9 @@ indexOf t [] = 0
 indexOf t (a ∷ l) = cond (eqb (a .tab) t) 0 (suc (indexOf t l))
 
 -- "tests first that the record exists (10)"
-unfoldable pub find : List Attributes → ℕ → Found
-find l t = cond (ltb (indexOf t l) (length l)) (At (indexOf t l)) (Refused NoRecord)
-
--- a record that was found goes on to its own tests
-unfoldable pub whenFound : Found → (ℕ → Found) → Found
-whenFound (At i) test = test i
-whenFound (Refused refusal) test = Refused refusal
+unfoldable pub find : List Attributes → ℕ → Answer ℕ
+find l t = cond (ltb (indexOf t l) (length l)) (given (indexOf t l)) (refused noRecord)
 
 -- "missing (10) or not readable (11)"
-unfoldable pub findReadable : List Attributes → ℕ → Found
-findReadable l t = whenFound (find l t) (λ i. cond (getD l i blankAttributes .readable) (At i) (Refused NotOpen))
+unfoldable pub findReadable : List Attributes → ℕ → Answer ℕ
+findReadable l t = whenGiven (find l t) (λ i. cond (getD l i blankAttributes .readable) (given i) (refused notOpen))

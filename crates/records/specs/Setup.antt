@@ -1,17 +1,17 @@
 -- The rules of setup on records, and the records that break none (01, The card).
-use Prim.Native.Nat.{ℕ, _≤_, _<_}
+use Prim.Native.Nat.{ℕ, zero, suc, _≤_, _<_}
 use mathlib.Core.Bool.{Bool, true, false, not, _&&_, _||_}
 use mathlib.Core.List.{List, [], _∷_}
 use mathlib.Core.Path.{_≡_}
 use lib.Dec.{leb, eqb}
 use lib.ListN.{length, replicate}
+use Rattle.numbers.specs.Table.{none}
+use Rattle.numbers.specs.Answer.{numberOf}
 use Rattle.records.specs.declared.Kind.the-variants.{Raw, Label}
 use Rattle.records.specs.declared.Kind.{Kind}
 use Rattle.records.specs.declared.Attributes.{Attributes}
 use Rattle.records.specs.declared.Record.{Record}
 use Rattle.records.specs.declared.Records.{Records}
-use Rattle.records.specs.declared.Answer.the-variants.{Accepted, Refused}
-use Rattle.records.specs.declared.Answer.{Answer}
 use Rattle.records.specs.Judging.{acceptable, contents, contentsAnswer}
 use Rattle.records.specs.Finding.{used, attributesOf, blankAttributes, recordAt}
 
@@ -42,23 +42,19 @@ tabsApart (a ∷ l) = not (present (a .tab) l) && tabsApart l
 unfoldable pub keepsRules : Records → Bool
 keepsRules s = leb (s .count) 32 && tabsApart (attributesOf s) && allKeepLimits (attributesOf s)
 
--- the first of two answers, unless it accepts
-unfoldable pub first : Answer → Answer → Answer
-first Accepted next = next
-first (Refused refusal) next = Refused refusal
+-- the first of two numbers, unless it is none
+unfoldable pub first : ℕ → ℕ → ℕ
+first zero next = next
+first (suc n) next = suc n
 
 -- "then each content in turn"
-unfoldable pub contentsAnswers : List Record → Answer
-contentsAnswers [] = Accepted
-contentsAnswers (r ∷ l) = first (contentsAnswer r) (contentsAnswers l)
-
-unfoldable pub accepts : Answer → Bool
-accepts Accepted = true
-accepts (Refused refusal) = false
+unfoldable pub contentsNumber : List Record → ℕ
+contentsNumber [] = none
+contentsNumber (r ∷ l) = first (numberOf (contentsAnswer r)) (contentsNumber l)
 
 -- whether the records break no setup rule, contents included
 unfoldable pub sound : Records → Bool
-sound s = keepsRules s && accepts (contentsAnswers (used s))
+sound s = keepsRules s && eqb (contentsNumber (used s)) none
 
 -- what `keepsRules` tests, record by record
 pub record Rules (s : Records) : Type 0 where
@@ -71,7 +67,7 @@ pub record Rules (s : Records) : Type 0 where
 pub record Sound (s : Records) : Type 0 where
   pub rules : Rules s
   pub lengths : (i : ℕ) → i < length (used s) → recordAt s i .length .0 ≤ recordAt s i .attributes .limit .0
-  pub accepted : (i : ℕ) → i < length (used s) → acceptable (recordAt s i .attributes) (contents (recordAt s i)) ≡ Accepted
+  pub accepted : (i : ℕ) → i < length (used s) → numberOf (acceptable (recordAt s i .attributes) (contents (recordAt s i))) ≡ none
 
 -- no record is in use, and every octet is 0
 abbrev pub empty : Records

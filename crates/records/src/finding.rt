@@ -1,6 +1,7 @@
 // The record that a TAB names.
 ghost use mathlib.Core.Path.{_≡_};
 ghost use Prim.Native.Nat.{min};
+ghost use Rattle.records.specs.Numbers.{answerOfFound};
 ghost use Rattle.records.specs.Finding.{attributesOf, find, findReadable};
 use crate::Found;
 use crate::Records;
@@ -16,7 +17,7 @@ pub(crate) fn in_use(count: usize) -> usize
 impl Records {
     // The record with this TAB: the first where a broken setup rule lets two have it.
     pub fn find(self, tab: u8) -> Found
-        ensures { λ r. ⌜ r ≡ find (attributesOf self) tab ⌝ }
+        ensures { λ r. ⌜ answerOfFound r ≡ find (attributesOf self) tab ⌝ }
     {
         let n = in_use(self.count);
         let mut i = 0;
@@ -33,7 +34,7 @@ impl Records {
 
     // The record with this TAB, if it may be read.
     pub fn find_readable(self, tab: u8) -> Found
-        ensures { λ r. ⌜ r ≡ findReadable (attributesOf self) tab ⌝ }
+        ensures { λ r. ⌜ answerOfFound r ≡ findReadable (attributesOf self) tab ⌝ }
     {
         let found = self.find(tab);
         let Found::At(i) = found else {

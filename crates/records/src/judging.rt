@@ -2,26 +2,28 @@
 ghost use mathlib.Core.Path.{_≡_};
 ghost use Rattle.label.specs.Fitting.{answerOfText};
 ghost use Rattle.records.specs.Judging.{overLong, textAnswer, acceptable, contentsAnswer};
-ghost use Rattle.records.specs.Numbers.{refusalNumber, answerNumber};
+ghost use Rattle.records.specs.Numbers.{refusalNumber, answerNumber, answerOfJudged};
 use crate::Answer;
 use crate::Attributes;
+use crate::Judged;
 use crate::Kind;
 use crate::Record;
 use crate::Refusal;
 use label::Text;
 use numbers::Characters;
 use numbers::Octets;
+use numbers::table;
 
 impl Refusal {
     pub fn number(self) -> u8
         ensures { λ r. ⌜ r ≡ refusalNumber self ⌝ }
     {
         match self {
-            Refusal::TooLong => 7,
-            Refusal::IllFormed => 8,
-            Refusal::TooManyCharacters => 9,
-            Refusal::NoRecord => 10,
-            Refusal::NotOpen => 11,
+            Refusal::TooLong => table::TOO_LONG,
+            Refusal::IllFormed => table::ILL_FORMED,
+            Refusal::TooManyCharacters => table::TOO_MANY_CHARACTERS,
+            Refusal::NoRecord => table::NO_RECORD,
+            Refusal::NotOpen => table::NOT_OPEN,
         }
     }
 }
@@ -31,7 +33,7 @@ impl Answer {
         ensures { λ r. ⌜ r ≡ answerNumber self ⌝ }
     {
         match self {
-            Answer::Accepted => 0,
+            Answer::Accepted => table::NONE,
             Answer::Refused(refusal) => refusal.number(),
         }
     }
@@ -48,33 +50,33 @@ fn over_long(limit: Octets, octets: Octets) -> bool
     limit.0 < n
 }
 
-fn text_answer(limit: Characters, text: Text) -> Answer
-    ensures { λ r. ⌜ r ≡ textAnswer limit (answerOfText text) ⌝ }
+fn text_answer(limit: Characters, text: Text) -> Judged
+    ensures { λ r. ⌜ answerOfJudged r ≡ textAnswer limit (answerOfText text) ⌝ }
 {
     match text {
-        Text::IllFormed(_) => Answer::Refused(Refusal::IllFormed),
+        Text::IllFormed(_) => Judged::Refused(Refusal::IllFormed),
         Text::WellFormed(characters) => {
             if limit.0 < characters.0 {
-                Answer::Refused(Refusal::TooManyCharacters)
+                Judged::Refused(Refusal::TooManyCharacters)
             } else {
-                Answer::Accepted
+                Judged::Accepted(characters)
             }
         }
     }
 }
 
 impl Attributes {
-    // Whether the record takes this data.
-    pub fn acceptable(self, data: &[u8]) -> Answer
-        ensures { λ r. ⌜ r ≡ acceptable self (now («data» .entry)) ⌝ }
+    // Whether the record takes this data, and how many characters it then has.
+    pub fn acceptable(self, data: &[u8]) -> Judged
+        ensures { λ r. ⌜ answerOfJudged r ≡ acceptable self (now («data» .entry)) ⌝ }
     {
         let limit = self.limit;
         if over_long(limit, Octets(data.len())) {
-            return Answer::Refused(Refusal::TooLong);
+            return Judged::Refused(Refusal::TooLong);
         }
         let kind = self.kind;
         let Kind::Label(characters) = kind else {
-            return Answer::Accepted;
+            return Judged::Accepted(Characters(0));
         };
         let text = label::measure(data);
         text_answer(characters, text)
@@ -83,14 +85,14 @@ impl Attributes {
 
 impl Record {
     // The contents as data for the record, after the length that it states, which may break a rule too.
-    pub fn contents_answer(self) -> Answer
-        ensures { λ r. ⌜ r ≡ contentsAnswer self ⌝ }
+    pub fn contents_answer(self) -> Judged
+        ensures { λ r. ⌜ answerOfJudged r ≡ contentsAnswer self ⌝ }
     {
         let attributes = self.attributes;
         let limit = attributes.limit;
         let length = self.length;
         if over_long(limit, length) {
-            return Answer::Refused(Refusal::TooLong);
+            return Judged::Refused(Refusal::TooLong);
         }
         let storage = self.storage;
         let end = length.0;

@@ -46,7 +46,13 @@ pub enum Refusal {
     NotOpen,
 }
 
-// What data for a record, a write, or the contents given at setup come to.
+// What data comes to as data of a record: its character count, which is 0 for a raw record, or why the record does not take it.
+pub enum Judged {
+    Accepted(Characters),
+    Refused(Refusal),
+}
+
+// What a write, or the contents given at setup, come to.
 pub enum Answer {
     Accepted,
     Refused(Refusal),
@@ -58,12 +64,12 @@ pub enum Found {
     Refused(Refusal),
 }
 
-// Who writes: the meter, to which every record is open, or a programming or transfer frame, to which the record's mark may
-// open it.
-pub enum Access {
+// What causes a write: the meter, or a frame from the primary with this ADP that programs, transfers or broadcasts.
+pub enum Cause {
     Meter,
-    Programming,
-    Transfer,
+    Programmed(u8),
+    Transferred(u8),
+    Broadcast(u8),
 }
 
 // The records after a write, and what became of it.

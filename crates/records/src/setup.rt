@@ -1,9 +1,11 @@
 // The rules that setup lays down, and that every later call asks of the records.
 ghost use mathlib.Core.Path.{_≡_};
 ghost use Rattle.records.specs.Finding.{used, attributesOf};
-ghost use Rattle.records.specs.Setup.{keepsLimits, allKeepLimits, tabsApart, keepsRules, contentsAnswers, sound, empty};
+ghost use Rattle.records.specs.Numbers.{answerNumber};
+ghost use Rattle.records.specs.Setup.{keepsLimits, allKeepLimits, tabsApart, keepsRules, contentsNumber, sound, empty};
 use crate::Answer;
 use crate::Attributes;
+use crate::Judged;
 use crate::Kind;
 use crate::Record;
 use crate::Records;
@@ -77,16 +79,16 @@ impl Records {
 
     // Setup's second test of the records: the first refusal in their order (7, 8, 9).
     pub fn contents_answers(self) -> Answer
-        ensures { λ r. ⌜ r ≡ contentsAnswers (used self) ⌝ }
+        ensures { λ r. ⌜ answerNumber r ≡ contentsNumber (used self) ⌝ }
     {
         let n = in_use(self.count);
         let mut i = 0;
         while i < n {
             let record = self.each[i];
-            let answer = record.contents_answer();
-            let Answer::Accepted = answer else {
-                return answer;
-            };
+            let judged = record.contents_answer();
+            if let Judged::Refused(refusal) = judged {
+                return Answer::Refused(refusal);
+            }
             i += 1;
         }
         Answer::Accepted

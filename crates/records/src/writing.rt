@@ -2,56 +2,47 @@
 ghost use mathlib.Core.Path.{_≡_};
 ghost use Prim.Native.Nat.{_≤_, _<_};
 ghost use lib.ListN.{length};
+ghost use Rattle.records.specs.Numbers.{answerOfFound};
 ghost use Rattle.records.specs.Finding.{attributesOf};
-ghost use Rattle.records.specs.Writing.{opens, grant, lay, hold, store, write};
-use crate::Access;
+ghost use Rattle.records.specs.Writing.{opens, grant, hold, store, write, Writes};
 use crate::Answer;
 use crate::Attributes;
+use crate::Cause;
 use crate::Found;
+use crate::Judged;
 use crate::Record;
 use crate::Records;
 use crate::Refusal;
 use crate::Written;
 use numbers::Octets;
 
-impl Access {
+impl Cause {
+    // To the meter every record is open.
     fn opens(self, attributes: Attributes) -> bool
         ensures { λ r. ⌜ r ≡ opens self attributes ⌝ }
     {
         match self {
-            Access::Meter => true,
-            Access::Programming => attributes.programming,
-            Access::Transfer => attributes.transfer,
+            Cause::Meter => true,
+            Cause::Programmed(_) => attributes.programming,
+            Cause::Transferred(_) => attributes.transfer,
+            Cause::Broadcast(_) => attributes.transfer,
         }
     }
 }
 
-// The storage with the data at its front. The octets after the data stay.
-fn lay(storage: [u8; 116], data: &[u8]) -> [u8; 116]
-    requires { ⌜ length (now «data») ≤ 116 ⌝ }
-    ensures { λ r. ⌜ r ≡ lay storage (now («data» .entry)) ⌝ }
-{
-    let mut next = storage;
-    let mut i = 0;
-    while i < data.len() {
-        next[i] = data[i];
-        i += 1;
-    }
-    next
-}
-
 impl Record {
+    // The data over the front of the storage. The octets after it stay.
     fn hold(self, data: &[u8]) -> Record
         requires { ⌜ length (now «data») ≤ 116 ⌝ }
         ensures { λ r. ⌜ r ≡ hold self (now («data» .entry)) ⌝ }
     {
         let attributes = self.attributes;
-        let storage = self.storage;
-        let next = lay(storage, data);
+        let mut storage = self.storage;
+        octets::put(&mut storage, 0, data);
         Record {
             attributes,
             length: Octets(data.len()),
-            storage: next,
+            storage,
         }
     }
 }
@@ -69,8 +60,8 @@ impl Records {
     }
 
     // The record that the write is granted for.
-    fn grant(self, access: Access, tab: u8, data: &[u8]) -> Found
-        ensures { λ r. ⌜ r ≡ grant (attributesOf self) access tab (now («data» .entry)) ⌝ }
+    fn grant(self, cause: Cause, tab: u8, data: &[u8]) -> Found
+        ensures { λ r. ⌜ answerOfFound r ≡ grant (attributesOf self) cause tab (now («data» .entry)) ⌝ }
     {
         let found = self.find(tab);
         let Found::At(i) = found else {
@@ -78,21 +69,21 @@ impl Records {
         };
         let record = self.each[i];
         let attributes = record.attributes;
-        if !access.opens(attributes) {
+        if !cause.opens(attributes) {
             return Found::Refused(Refusal::NotOpen);
         }
-        let answer = attributes.acceptable(data);
-        match answer {
-            Answer::Accepted => found,
-            Answer::Refused(refusal) => Found::Refused(refusal),
+        let judged = attributes.acceptable(data);
+        match judged {
+            Judged::Accepted(_) => found,
+            Judged::Refused(refusal) => Found::Refused(refusal),
         }
     }
 
     // A write over the bus or by the meter: the record then holds the data, or all stays as it was.
-    pub fn write(self, access: Access, tab: u8, data: &[u8]) -> Written
-        ensures { λ r. ⌜ r ≡ write self access tab (now («data» .entry)) ⌝ }
+    pub fn write(self, cause: Cause, tab: u8, data: &[u8]) -> Written
+        ensures { λ r. ⌜ Writes (write self cause tab (now («data» .entry))) r ⌝ }
     {
-        let granted = self.grant(access, tab, data);
+        let granted = self.grant(cause, tab, data);
         match granted {
             Found::At(i) => Written {
                 records: self.store(i, data),

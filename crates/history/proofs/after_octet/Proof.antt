@@ -4,19 +4,18 @@ use mathlib.Core.Path.{sym, ap, _∙_}
 use native.Mathlib.Omega.{arith}
 use lib.ListN.{replicate}
 use lib.Seq.{length-take-le}
-use Rattle.card.specs.declared.Stepped.{Stepped}
 use Rattle.card.specs.Events.{afterOctet, after}
 use borrow.Author.Needs.{needs}
 use Rattle.history.proofs.after_octet.Statement.{statement}
 use Rattle.history.proofs.after_octet.Tie as tie
 
-array-borrow-prefix-reply : tie.Need-array-borrow-prefix-reply
-array-borrow-prefix-reply c = search needs
+array-borrow-prefix-buffer : tie.Need-array-borrow-prefix-buffer
+array-borrow-prefix-buffer c = search needs
 
 slice-aggregate-octet : tie.Need-slice-aggregate-octet
 slice-aggregate-octet c =
-    let short : c .before .before .args .room ≤ 255 = omega arith in
-    sym (length-take-le (c .before .before .args .room) (replicate 255 0) short)
+    let short : c .before .before .args .reply ≤ 255 = omega arith in
+    sym (length-take-le (c .before .before .args .reply) (replicate 255 0) short)
 
 octet-requires : tie.Need-octet-requires
 octet-requires c κs = search needs
@@ -25,10 +24,10 @@ returns : tie.Need-returns
 unfolding after
 returns c =
     let s = c .before .before .before .before .before in
-    let short : s .args .room ≤ 255 = omega arith in
-    ap (λ (r : Stepped). r .card) (c .before .before .octet .ensures .step)
-    ∙ ap (λ (n : ℕ). afterOctet (s .args .card) (s .args .octet) (s .args .number .now) n .card) (length-take-le (s .args .room) (replicate 255 0) short)
+    let short : s .args .reply ≤ 255 = omega arith in
+    c .before .before .octet .ensures .card
+    ∙ ap (λ (n : ℕ). afterOctet (s .args .card) (s .args .octet) (record { na2 = s .args .na2 .now; reply = n }) .card) (length-take-le (s .args .reply) (replicate 255 0) short)
 
 pub after-octet-spec : {M : Type 1} → statement M
 after-octet-spec =
-    tie.close (tie.spec array-borrow-prefix-reply slice-aggregate-octet octet-requires returns)
+    tie.close (tie.spec array-borrow-prefix-buffer slice-aggregate-octet octet-requires returns)

@@ -1,9 +1,9 @@
 -- The loop goes on from a card and a place from which the calls that are left end as the whole history does.
 use Prim.Native.Nat.{ℕ, _≤_, _<_, _+_, _-_}
-use mathlib.Core.Path.{_≡_}
-use lib.ListN.{length, take, drop}
-use Rattle.history.specs.Encoding.{sizeAt}
-use Rattle.history.proofs.Decoding.{Going, going-start, going-next, going-done, some-taken, rest-length}
+use mathlib.Core.Path.{ap}
+use lib.ListN.{length}
+use Rattle.history.specs.declared.calls.Head.{Head}
+use Rattle.history.proofs.Decoding.{Going, going-start, going-next, going-done, call-taken}
 use borrow.Author.Needs.{needs}
 use native.Mathlib.Omega.{arith}
 use Rattle.history.proofs.run.Statement.{statement}
@@ -27,32 +27,27 @@ part-rest-start c = search needs
 part-rest-end : tie.Need-part-rest-end Inv-loop μ-loop
 part-rest-end c = search needs
 
+head-at-requires : tie.Need-head-at-requires Inv-loop μ-loop
+head-at-requires c κs = search needs
+
 after-first-requires : tie.Need-after-first-requires Inv-loop μ-loop
 after-first-requires c κs = search needs
 
-size-at-requires : tie.Need-size-at-requires Inv-loop μ-loop
-size-at-requires c κs = search needs
-
 -- a call takes an octet or more, and no more than are left
-took : (c : tie.After-size-at Inv-loop μ-loop) → (0 < c .size-at .result) × (c .before .before .before .before .loop .at + c .size-at .result ≤ length (c .before .before .before .before .before .before .args .history .now))
-took c =
-    let h = c .before .before .before .before .before .before .args .history .now in
-    let at = c .before .before .before .before .loop .at in
-    let left = rest-length h at in
-    let some = some-taken (take (length h - at) (drop at h)) (omega (arith, left, c .before .before .before .loop-test .taken)) in
-    let size : c .size-at .result ≡ sizeAt (take (length h - at) (drop at h)) = c .size-at .ensures in
-    (omega (arith, size, some), omega (arith, size, some, left, c .before .before .before .loop-test .taken))
+took : (c : tie.After-after-first Inv-loop μ-loop) → (0 < c .before .before .head-at .result .size .0) × (c .before .before .before .before .before .loop .at + c .before .before .head-at .result .size .0 ≤ length (c .before .before .before .before .before .before .before .args .history .now))
+took c = call-taken (c .before .before .before .before .before .before .before .args .history .now) (c .before .before .before .before .before .loop .at) (c .before .before .head-at .result) (c .before .before .before .before .loop-test .taken) (c .before .before .head-at .ensures)
 
 add-at : tie.Need-add-at Inv-loop μ-loop
-add-at c = omega (arith, took c)
+add-at c = omega (arith, took (c .before))
 
 loop-less : tie.Need-loop-less Inv-loop μ-loop
-loop-less c = omega (arith, took c)
+loop-less c = omega (arith, took (c .before))
 
 loop-again : tie.Need-loop-again Inv-loop μ-loop
 loop-again c =
-    let l = c .before .before .before .before .loop in
-    (took c .1, going-next _ _ (l .c) _ (l .at) (c .size-at .result) (l .inv .1 .0) (c .before .before .before .loop-test .taken) (c .before .after-first .ensures) (c .size-at .ensures) (l .inv .1 .1))
+    let l = c .before .before .before .before .before .before .loop in
+    let size = ap (λ (x : Head). x .size .0) (c .before .before .before .head-at .ensures) in
+    (took (c .before) .1, going-next _ _ (l .c) _ (l .at) (c .before .before .before .head-at .result .size .0) (l .inv .1 .0) (c .before .before .before .before .before .loop-test .taken) (c .before .after-first .ensures) size (l .inv .1 .1))
 
 returns : tie.Need-returns Inv-loop μ-loop
 returns c =
@@ -69,8 +64,8 @@ run-spec =
     sub-rest
     part-rest-start
     part-rest-end
+    head-at-requires
     after-first-requires
-    size-at-requires
     add-at
     loop-less
     loop-again

@@ -1,9 +1,23 @@
 -- `Card::admitted` runs setup's checks in the order of the definition.
+use Prim.Native.Nat.{ℕ, zero, suc}
+use mathlib.Core.Path.{_≡_, refl, sym, ap, _∙_}
+use native.Mathlib.Omega.{arith}
 use borrow.Author.Needs.{needs}
 use borrow.Author.Tests.{not-true, not-false}
-use Rattle.card.specs.Setup.{admittedWith, admitted}
+use Rattle.numbers.specs.Table.{none}
+use Rattle.records.specs.Numbers.{answerNumber as writeNumber}
+use Rattle.records.proofs.Refusals.{refusal-bounds}
+use Rattle.card.specs.declared.Card.{Card}
+use Rattle.card.specs.Setup.{refusedSetup, admittedWith, admitted}
+use Rattle.card.proofs.Giving.{told}
 use Rattle.card.proofs.Card.admitted.Statement.{statement}
 use Rattle.card.proofs.Card.admitted.Tie as tie
+
+-- contents that are refused refuse the setup
+refused-contents : (n : ℕ) (c : Card) → (n ≡ none → ⊥) → admittedWith n c ≡ refusedSetup n
+unfolding admittedWith
+refused-contents zero c h = absurd (h refl)
+refused-contents (suc n) c h = refl
 
 broadcast-requires : tie.Need-broadcast-requires
 broadcast-requires c κs = search needs
@@ -43,20 +57,26 @@ refused-setup-requires-3 : tie.Need-refused-setup-requires-3
 refused-setup-requires-3 c κs = search needs
 
 returns-3 : tie.Need-returns-3
-unfolding admitted admittedWith
+unfolding admitted
 returns-3 c =
-    rw (← c .before .before .before .before .before .before .before .before .broadcast .ensures, c .before .before .before .before .before .before .before .if1 .left, ← c .before .before .before .before .before .before .keeps-rules .ensures, not-false (c .before .before .before .before .before .before .keeps-rules .result) (c .before .before .before .before .before .if2 .left), ← c .before .before .before .before .contents-answers .ensures, c .refused-setup3 .ensures, c .before .write-answer .ensures, c .before .before .enum-told2 .given .1)
+    let refusal = c .before .before .enum-told2 .given .0 .0 in
+    let number = sym (c .before .before .before .before .contents-answers .ensures) ∙ ap writeNumber (c .before .before .enum-told2 .given .1) in
+    let some : writeNumber (c .before .before .before .before .contents-answers .result) ≡ none → ⊥ = λ e. omega (arith, sym number ∙ sym (c .before .before .before .before .contents-answers .ensures) ∙ e, refusal-bounds refusal .0) in
+    rw (← c .before .before .before .before .before .before .before .before .broadcast .ensures, c .before .before .before .before .before .before .before .if1 .left, ← c .before .before .before .before .before .before .keeps-rules .ensures, not-false (c .before .before .before .before .before .before .keeps-rules .result) (c .before .before .before .before .before .if2 .left), ← c .before .before .before .before .contents-answers .ensures, refused-contents (writeNumber (c .before .before .before .before .contents-answers .result)) _ some, ← c .before .write-answer .ensures)
+    (c .refused-setup3 .ensures)
 
 fresh-requires : tie.Need-fresh-requires
 fresh-requires c κs = search needs
 
-answering-requires : tie.Need-answering-requires
-answering-requires c κs = search needs
+answered-requires : tie.Need-answered-requires
+answered-requires c κs = search needs
 
 returns-4 : tie.Need-returns-4
 unfolding admitted admittedWith
 returns-4 c =
-    rw (← c .before .before .before .before .before .before .before .before .broadcast .ensures, c .before .before .before .before .before .before .before .if1 .left, ← c .before .before .before .before .before .before .keeps-rules .ensures, not-false (c .before .before .before .before .before .before .keeps-rules .result) (c .before .before .before .before .before .if2 .left), ← c .before .before .before .before .contents-answers .ensures, c .before .before .enum-told .given .1, c .answering .ensures, c .before .fresh .ensures)
+    let number = sym (c .before .before .before .before .contents-answers .ensures) ∙ ap writeNumber (c .before .before .enum-told .given .1) in
+    rw (← c .before .before .before .before .before .before .before .before .broadcast .ensures, c .before .before .before .before .before .before .before .if1 .left, ← c .before .before .before .before .before .before .keeps-rules .ensures, not-false (c .before .before .before .before .before .before .keeps-rules .result) (c .before .before .before .before .before .if2 .left), number, ← c .before .fresh .ensures)
+    (told _ _ _ _ (c .answered .ensures) refl)
 
 pub admitted-spec : {M : Type 1} → statement M
-admitted-spec = tie.close (tie.spec broadcast-requires refused-setup-requires returns keeps-rules-requires refused-setup-requires-2 returns-2 contents-answers-requires enum-told enum-told-2 write-answer-requires refused-setup-requires-3 returns-3 fresh-requires answering-requires returns-4)
+admitted-spec = tie.close (tie.spec broadcast-requires refused-setup-requires returns keeps-rules-requires refused-setup-requires-2 returns-2 contents-answers-requires enum-told enum-told-2 write-answer-requires refused-setup-requires-3 returns-3 fresh-requires answered-requires returns-4)

@@ -1,5 +1,5 @@
 -- `Card::gap` tests the card, and takes over what its receiver gives.
-use mathlib.Core.Path.{_≡_, _∙_}
+use mathlib.Core.Path.{_≡_, refl, _∙_}
 use mathlib.Core.Bool.{true}
 use borrow.Author.Needs.{needs}
 use borrow.Author.Tests.{not-true, not-false}
@@ -7,6 +7,7 @@ use Rattle.receiver.proofs.Follows.{gap-follows}
 use Rattle.card.specs.Events.{afterGap}
 use Rattle.card.proofs.Shape.{receiver-length}
 use Rattle.card.proofs.Soundness.{sound-means}
+use Rattle.card.proofs.Giving.{told}
 use Rattle.card.proofs.Receptions.{gap-given}
 use Rattle.card.proofs.Card.gap.Statement.{statement}
 use Rattle.card.proofs.Card.gap.Tie as tie
@@ -14,12 +15,12 @@ use Rattle.card.proofs.Card.gap.Tie as tie
 sound-requires : tie.Need-sound-requires
 sound-requires c κs = search needs
 
-answering-requires : tie.Need-answering-requires
-answering-requires c κs = search needs
+answered-requires : tie.Need-answered-requires
+answered-requires c κs = search needs
 
 returns : tie.Need-returns
 unfolding afterGap
-returns c = rw (← c .before .before .sound .ensures, not-true (c .before .before .sound .result) (c .before .if1 .taken)) (c .answering .ensures)
+returns c = rw (← c .before .before .sound .ensures, not-true (c .before .before .sound .result) (c .before .if1 .taken)) (told _ _ _ _ (c .answered .ensures) refl)
 
 gap-requires : tie.Need-gap-requires
 gap-requires c κs = search needs
@@ -30,8 +31,8 @@ with-receiver-requires c κs = search needs
 event-answer-requires : tie.Need-event-answer-requires
 event-answer-requires c κs = search needs
 
-answering-requires-2 : tie.Need-answering-requires-2
-answering-requires-2 c κs = search needs
+answered-requires-2 : tie.Need-answered-requires-2
+answered-requires-2 c κs = search needs
 
 returns-2 : tie.Need-returns-2
 unfolding afterGap
@@ -40,8 +41,9 @@ returns-2 c =
     let passed : c .before .before .before .before .before .before .before .sound .result ≡ true = not-false (c .before .before .before .before .before .before .before .sound .result) (c .before .before .before .before .before .before .if1 .left) in
     let sound = sound-means (s .args .self) .0 (rw (c .before .before .before .before .before .before .before .sound .ensures) at passed) in
     let follows = gap-follows (s .args .self .receiver) (sound .receiver) (receiver-length (s .args .self) _ (s .good .0)) in
-    rw (← c .before .before .before .before .before .before .before .sound .ensures, passed, gap-given (s .args .self) _ (c .before .before .before .before .gap .result) (c .before .before .before .before .gap .ensures ∙ follows .answer), ← c .before .before .with-receiver .ensures, ← c .before .event-answer .ensures)
-    (c .answering2 .ensures)
+    let given = gap-given (s .args .self) _ (c .before .before .before .before .gap .result) (c .before .before .before .before .gap .ensures ∙ follows .answer) in
+    rw (← c .before .before .before .before .before .before .before .sound .ensures, passed, given, ← c .before .before .with-receiver .ensures)
+    (told _ _ _ _ (c .answered2 .ensures) (c .before .event-answer .ensures))
 
 pub gap-spec : {M : Type 1} → statement M
-gap-spec = tie.close (tie.spec sound-requires answering-requires returns gap-requires with-receiver-requires event-answer-requires answering-requires-2 returns-2)
+gap-spec = tie.close (tie.spec sound-requires answered-requires returns gap-requires with-receiver-requires event-answer-requires answered-requires-2 returns-2)

@@ -1,28 +1,29 @@
 -- `Card::on_enq` sends the record that is found. A sound record's contents fit in DAT.
 use Prim.Native.Nat.{_≤_, _<_}
-use mathlib.Core.Path.{_≡_, refl, sym, _∙_}
+use mathlib.Core.Path.{_≡_, refl, sym, ap, _∙_}
 use native.Mathlib.Omega.{arith}
 use lib.ListN.{length}
 use borrow.Author.Needs.{needs}
 use Rattle.octets.specs.Between.{between}
 use Rattle.frame.specs.Layout.{layoutOf, within}
-use Rattle.records.specs.declared.Found.the-variants.{At}
+use Rattle.numbers.specs.Answer.{given}
+use Rattle.records.specs.Numbers.{answerOfFound}
 use Rattle.records.specs.Finding.{attributesOf, find, recordAt}
 use Rattle.records.proofs.Grants.{readable-means}
 use Rattle.records.proofs.Places.{found-used}
 use Rattle.records.proofs.Shape.{found-element}
 use Rattle.card.specs.Frames.{enqFor, onEnq}
-use Rattle.card.proofs.Replies.{sent-gives}
+use Rattle.card.proofs.Giving.{sent-by}
 use Rattle.card.proofs.Card.on_enq.Statement.{statement}
 use Rattle.card.proofs.Card.on_enq.Tie as tie
 
 -- the record that is found
 module _ (c : tie.After-known-told) where
-  found : find (attributesOf (c .before .before .before .before .before .before .before .args .self .records)) (c .before .before .before .before .before .before .before .args .fields .tab) ≡ At (c .before .found .given .0 .0)
-  found = readable-means _ _ _ (sym (c .before .before .before .find-readable .ensures) ∙ c .before .found .given .1) .0
+  found : find (attributesOf (c .before .before .before .before .before .before .before .args .self .records)) (c .before .before .before .before .before .before .before .args .fields .tab) ≡ given (c .before .found .given .0 .0)
+  found = readable-means _ _ _ (sym (c .before .before .before .find-readable .ensures) ∙ ap answerOfFound (c .before .found .given .1)) .0
 
   inside : c .before .found .given .0 .0 < 32
-  inside = found-element (c .before .before .before .before .before .before .before .args .self .records) _ (c .before .before .before .before .before .before .before .good .0 .1 .1 .1 .1 .0) _ _ found
+  inside = found-element (c .before .before .before .before .before .before .before .args .self .records) _ (c .before .before .before .before .before .before .before .good .0 .1 .1 .1 .0) _ _ found
 
   short : recordAt (c .before .before .before .before .before .before .before .args .self .records) (c .before .found .given .0 .0) .length .0 ≤ 116
   short =
@@ -30,8 +31,8 @@ module _ (c : tie.After-known-told) where
       let used = found-used (c .before .before .before .before .before .before .before .args .self .records) _ _ found in
       omega (arith, s .lengths _ used, s .rules .octetLimits _ used)
 
-in-phase-requires : tie.Need-in-phase-requires
-in-phase-requires c κs = search needs
+idle-requires : tie.Need-idle-requires
+idle-requires c κs = search needs
 
 find-readable-requires : tie.Need-find-readable-requires
 find-readable-requires c κs = search needs
@@ -61,7 +62,9 @@ same-length c = search needs
 returns : tie.Need-returns
 unfolding onEnq enqFor
 returns c =
-    rw (← c .before .before .before .before .before .before .before .before .find-readable .ensures, c .before .before .before .before .before .before .found .given .1, ← c .before .before .before .before .before .before .before .before .before .before .in-phase .ensures) (sent-gives _ _ (c .before .before .send-record .ensures))
+    let f = c .before .before .before .before .before .before .found in
+    let found = sym (c .before .before .before .before .before .before .before .before .find-readable .ensures) ∙ ap answerOfFound (f .given .1) in
+    rw found (sent-by _ (c .before .before .before .before .before .before .before .before .before .before .idle .ensures) refl (c .before .before .send-record .ensures))
 
 same-length-2 : tie.Need-same-length-2
 same-length-2 c = search needs
@@ -69,7 +72,9 @@ same-length-2 c = search needs
 returns-2 : tie.Need-returns-2
 unfolding onEnq enqFor
 returns-2 c =
-    rw (← c .before .before .before .before .before .before .before .find-readable .ensures, c .before .before .before .before .before .found2 .given .1, ← c .before .before .before .before .before .before .before .before .before .in-phase .ensures) (sent-gives _ _ (c .before .before .send-bare .ensures))
+    let f = c .before .before .before .before .before .found2 in
+    let missing = sym (c .before .before .before .before .before .before .before .find-readable .ensures) ∙ ap answerOfFound (f .given .1) in
+    rw missing (sent-by _ (c .before .before .before .before .before .before .before .before .before .idle .ensures) refl (c .before .before .send-bare .ensures))
 
 pub on-enq-spec : {M : Type 1} → statement M
-on-enq-spec = tie.close (tie.spec in-phase-requires find-readable-requires enum-known-found mul-record element-copy-out-record send-record-requires enum-known-found-2 send-bare-requires same-length returns same-length-2 returns-2)
+on-enq-spec = tie.close (tie.spec idle-requires find-readable-requires enum-known-found mul-record element-copy-out-record send-record-requires enum-known-found-2 send-bare-requires same-length returns same-length-2 returns-2)

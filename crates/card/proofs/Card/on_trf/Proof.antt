@@ -7,19 +7,19 @@ use Rattle.card.specs.Frames.{onTrf}
 use Rattle.card.proofs.Card.on_trf.Statement.{statement}
 use Rattle.card.proofs.Card.on_trf.Tie as tie
 
-in-phase-requires : tie.Need-in-phase-requires
-in-phase-requires c κs = search needs
+idle-requires : tie.Need-idle-requires
+idle-requires c κs = search needs
 
-settled-requires : tie.Need-settled-requires
+acknowledged-requires : tie.Need-acknowledged-requires
 unfolding layoutOf within between
-settled-requires c κs = (c .before .before .before .before .pre, refl)
+acknowledged-requires c κs = (c .before .before .before .before .pre, refl)
 
 same-length : tie.Need-same-length
 same-length c = search needs
 
 returns : tie.Need-returns
 unfolding onTrf
-returns c = rw (← c .before .before .before .before .in-phase .ensures) (c .before .before .settled .ensures)
+returns c = rw (← c .before .before .before .before .idle .ensures) (c .before .before .acknowledged .ensures)
 
 pub on-trf-spec : {M : Type 1} → statement M
-on-trf-spec = tie.close (tie.spec in-phase-requires settled-requires same-length returns)
+on-trf-spec = tie.close (tie.spec idle-requires acknowledged-requires same-length returns)

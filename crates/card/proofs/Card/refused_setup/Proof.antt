@@ -1,4 +1,5 @@
 -- `Card::refused_setup` hands back the bare card.
+use mathlib.Core.Path.{refl}
 use borrow.Author.Needs.{needs}
 use Rattle.card.proofs.Card.refused_setup.Statement.{statement}
 use Rattle.card.proofs.Card.refused_setup.Tie as tie
@@ -7,7 +8,7 @@ bare-requires : tie.Need-bare-requires
 bare-requires c κs = search needs
 
 returns : tie.Need-returns
-returns c = rw (c .bare .ensures)
+returns c = record { card = c .bare .ensures; number = refl }
 
 pub refused-setup-spec : {M : Type 1} → statement M
 refused-setup-spec = tie.close (tie.spec bare-requires returns)

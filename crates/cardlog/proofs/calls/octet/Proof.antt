@@ -1,4 +1,4 @@
--- `octet` is safe: the part of the buffer that is lent has as many octets as there is room, which is under 256.
+-- `octet` is safe: the part of the buffer that is lent has as many octets as asked, which is under 256.
 use borrow.Author.Needs.{needs}
 use lib.Seq.{length-take-le}
 use mathlib.Core.Path.{sym}
@@ -14,7 +14,7 @@ array-borrow-prefix-buffer c = search needs
 
 slice-aggregate-octet : tie.Need-slice-aggregate-octet
 slice-aggregate-octet c =
-    sym (length-take-le (c .before .before .before .args .room) (c .before .untouched .result) (omega (arith, c .before .untouched .ensures)))
+    sym (length-take-le (c .before .before .before .args .reply) (c .before .untouched .result) (omega (arith, c .before .untouched .ensures)))
 
 octet-requires : tie.Need-octet-requires
 octet-requires c κs = search needs

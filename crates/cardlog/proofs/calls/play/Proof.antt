@@ -1,30 +1,32 @@
 -- `play` is safe and ends: each call takes an octet or more, so what is left of the input falls.
 use Prim.Native.Nat.{_-_}
-use borrow.Author.Needs.{needs}
+use native.Mathlib.Omega.{arith}
 use lib.ListN.{length}
+use borrow.Author.Needs.{needs}
+use Rattle.history.proofs.Decoding.{call-taken}
 use Rattle.cardlog.proofs.calls.play.Statement.{statement}
 use Rattle.cardlog.proofs.calls.play.Tie as tie
 
 abbrev Inv-loop : tie.InvT-loop
-Inv-loop s from now₀ index₀ at₀ now index at = Unit {0}
+Inv-loop s now₀ index₀ at₀ now index at = Unit {0}
 
 abbrev μ-loop : tie.MeasureT-loop
-μ-loop s from now₀ index₀ at₀ now index at = length s - at
+μ-loop s now₀ index₀ at₀ now index at = length s - at
 
 loop-holds : tie.Need-loop-holds Inv-loop μ-loop
 loop-holds c = search needs
 
-call-end-requires : tie.Need-call-end-requires Inv-loop μ-loop
-call-end-requires c κs = search needs
+sub-rest : tie.Need-sub-rest Inv-loop μ-loop
+sub-rest c = search needs
 
-sub-called : tie.Need-sub-called Inv-loop μ-loop
-sub-called c = search needs
+part-rest-start : tie.Need-part-rest-start Inv-loop μ-loop
+part-rest-start c = search needs
 
-part-called-start : tie.Need-part-called-start Inv-loop μ-loop
-part-called-start c = search needs
+part-rest-end : tie.Need-part-rest-end Inv-loop μ-loop
+part-rest-end c = search needs
 
-part-called-end : tie.Need-part-called-end Inv-loop μ-loop
-part-called-end c = search needs
+head-at-requires : tie.Need-head-at-requires Inv-loop μ-loop
+head-at-requires c κs = search needs
 
 called-requires : tie.Need-called-requires Inv-loop μ-loop
 called-requires c κs = search needs
@@ -32,8 +34,11 @@ called-requires c κs = search needs
 wrapping-add-u64-requires : tie.Need-wrapping-add-u64-requires Inv-loop μ-loop
 wrapping-add-u64-requires c κs = search needs
 
+add-at : tie.Need-add-at Inv-loop μ-loop
+add-at c = omega (arith, call-taken (c .before .before .before .before .before .before .before .before .before .args .s .now) (c .before .before .before .before .before .before .before .loop .at) (c .before .before .before .before .head-at .result) (c .before .before .before .before .before .before .loop-test .taken) (c .before .before .before .before .head-at .ensures))
+
 loop-less : tie.Need-loop-less Inv-loop μ-loop
-loop-less c = search needs
+loop-less c = omega (arith, call-taken (c .before .before .before .before .before .before .before .before .before .args .s .now) (c .before .before .before .before .before .before .before .loop .at) (c .before .before .before .before .head-at .result) (c .before .before .before .before .before .before .loop-test .taken) (c .before .before .before .before .head-at .ensures))
 
 loop-again : tie.Need-loop-again Inv-loop μ-loop
 loop-again c = search needs
@@ -48,12 +53,13 @@ play-spec =
     Inv-loop
     μ-loop
     loop-holds
-    call-end-requires
-    sub-called
-    part-called-start
-    part-called-end
+    sub-rest
+    part-rest-start
+    part-rest-end
+    head-at-requires
     called-requires
     wrapping-add-u64-requires
+    add-at
     loop-less
     loop-again
     returns)

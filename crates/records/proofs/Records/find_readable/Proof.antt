@@ -1,8 +1,9 @@
 -- `find_readable` finds the record and then tests its mark.
 use Prim.Native.Nat.{_<_}
-use mathlib.Core.Path.{_≡_, sym, _∙_}
+use mathlib.Core.Path.{_≡_, sym, ap, _∙_}
 use borrow.Author.Needs.{needs}
-use Rattle.records.specs.declared.Found.the-variants.{At}
+use Rattle.numbers.specs.Answer.{given}
+use Rattle.records.specs.Numbers.{answerOfFound}
 use Rattle.records.specs.Finding.{attributesOf, find}
 use Rattle.records.proofs.Places.{readable-at, readable-none}
 use Rattle.records.proofs.Shape.{found-element}
@@ -10,8 +11,8 @@ use Rattle.records.proofs.Records.find_readable.Statement.{statement}
 use Rattle.records.proofs.Records.find_readable.Tie as tie
 
 -- the record that was found
-place : (c : tie.After-found) → find (attributesOf (c .before .before .before .args .t1)) (c .before .before .before .args .tab) ≡ At (c .found .given .0 .0)
-place c = sym (c .before .before .find .ensures) ∙ c .found .given .1
+place : (c : tie.After-found) → find (attributesOf (c .before .before .before .args .t1)) (c .before .before .before .args .tab) ≡ given (c .found .given .0 .0)
+place c = sym (c .before .before .find .ensures) ∙ ap answerOfFound (c .found .given .1)
 
 below : (c : tie.After-found) → c .found .given .0 .0 < 32
 below c =
@@ -28,7 +29,9 @@ enum-told : tie.Need-enum-told
 enum-told c = search needs
 
 returns : tie.Need-returns
-returns c = c .enum-told .given .1 ∙ sym (readable-none _ _ _ (sym (c .before .before .find .ensures) ∙ c .enum-told .given .1))
+returns c =
+    let missing = ap answerOfFound (c .enum-told .given .1) in
+    missing ∙ sym (readable-none _ _ _ (sym (c .before .before .find .ensures) ∙ missing))
 
 mul-record : tie.Need-mul-record
 mul-record c = let h : c .before .found .given .0 .0 < 32 = below (c .before) in search needs
