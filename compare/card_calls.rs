@@ -7,7 +7,7 @@ use crate::ffi::Lent;
 use crate::hex;
 use crate::report::{same, Case};
 
-/// In the cell of the length before each call, since no length is as great.
+/// In the cell of the length before each call, since no length is as great; 17 and 12 leave it there.
 const UNTOLD: usize = 777;
 
 /// A call with all that it is lent besides the memory.
@@ -81,18 +81,14 @@ fn expected(memory: &[u8], call: &Call) -> Outcome {
         }
         Call::Octet { octet, number, reply } => {
             buffer = reply.clone();
-            let answer = card_memory::octet(&mut memory, *octet, number, &mut buffer);
-            length = answer.1;
-            answer.0
+            card_memory::octet(&mut memory, *octet, number, &mut buffer, &mut length)
         }
         Call::Gap => card_memory::gap(&mut memory),
         Call::SessionEnd => card_memory::session_end(&mut memory),
         Call::MeterWrite { tab, data } => card_memory::meter_write(&mut memory, *tab, data),
         Call::Read { tab, data } => {
             buffer = data.clone();
-            let answer = card_memory::read(&memory, *tab, &mut buffer);
-            length = answer.1;
-            answer.0
+            card_memory::read(&memory, *tab, &mut buffer, &mut length)
         }
     };
     Outcome { number, length, memory, buffer, rest_kept: true }
@@ -126,7 +122,7 @@ impl Tally {
             17 => self.refused_17 += 1,
             _ => self.other_numbers += 1,
         }
-        self.replies += (matches!(call, Call::Octet { .. }) && outcome.length > 0) as usize;
+        self.replies += (matches!(call, Call::Octet { .. }) && (1..UNTOLD).contains(&outcome.length)) as usize;
     }
 
     pub fn line(&self) -> String {

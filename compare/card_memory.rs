@@ -8,26 +8,26 @@ use crate::record::{Record, RAW};
 use crate::utf8::{Characters, Octets};
 use std::ops::Range;
 
-pub const MEMORY: usize = 4160;
-/// A record in memory, and an entry of setup.
-pub const ENTRY: usize = 122;
+/// A record in memory, and an entry of setup: its head of six octets, then what is stored.
+pub const ENTRY: usize = 6 + STORED;
 pub const ENTRIES: usize = 32 * ENTRY;
 /// Stored octets of a record, of which its length says how many are in use.
 pub const STORED: usize = 116;
 
 const ADDRESS: Range<usize> = 0..6;
 const KEY: Range<usize> = 6..14;
-pub const COUNT: usize = 14;
-pub const WAIT_MARK: usize = 15;
-const WAIT_ADP: usize = 16;
-const WAIT_TAB: usize = 17;
-pub const WAIT_LENGTH: usize = 18;
-const WAIT_DATA: Range<usize> = 19..119;
-const WAIT_NA2: Range<usize> = 119..127;
-pub const RECEIVER_MARK: usize = 127;
-pub const RECEIVER_COUNT: usize = 128;
-pub const RECEIVER_OCTETS: Range<usize> = 129..256;
-pub const RECORDS: Range<usize> = 256..MEMORY;
+pub const WAIT_MARK: usize = 14;
+const WAIT_ADP: usize = 15;
+const WAIT_TAB: usize = 16;
+pub const WAIT_LENGTH: usize = 17;
+const WAIT_DATA: Range<usize> = 18..118;
+const WAIT_NA2: Range<usize> = 118..126;
+pub const COUNT: usize = 126;
+pub const RECORDS: Range<usize> = 127..127 + ENTRIES;
+pub const RECEIVER_MARK: usize = RECORDS.end;
+pub const RECEIVER_COUNT: usize = RECEIVER_MARK + 1;
+pub const RECEIVER_OCTETS: Range<usize> = RECEIVER_COUNT + 1..RECEIVER_COUNT + 128;
+pub const MEMORY: usize = RECEIVER_OCTETS.end;
 
 /// As many octets as a length says. A length over what is stored is over every limit, whatever the octets are.
 fn stated(length: u8, octets: &[u8]) -> Vec<u8> {
@@ -36,8 +36,7 @@ fn stated(length: u8, octets: &[u8]) -> Vec<u8> {
     data
 }
 
-/// Of the marks, all but the lowest two are the last one's, which is over 1 where a mark is not in use. A raw record has
-/// no character limit, so that octet is not read.
+/// Of the marks the lowest three bits are read, and no others. A raw record has no character limit, so that octet is not read.
 fn record(entry: &[u8]) -> Record {
     Record {
         tab: entry[0],
@@ -46,7 +45,7 @@ fn record(entry: &[u8]) -> Record {
         character_limit: Characters(if entry[1] == RAW { 0 } else { entry[3] as usize }),
         readable: entry[4] & 1,
         open_to_programming: entry[4] >> 1 & 1,
-        open_to_transfer: entry[4] >> 2,
+        open_to_transfer: entry[4] >> 2 & 1,
         data: stated(entry[5], &entry[6..]),
     }
 }
@@ -58,9 +57,10 @@ fn records(count: u8, entries: &[u8]) -> Vec<Record> {
     records
 }
 
-/// An entry; octets past the contents, and a raw record's character limit, are the filler's.
+/// An entry; octets past the contents, a raw record's character limit and the marks' other bits are the filler's.
 pub fn entry(record: &Record, filler: &mut impl FnMut() -> u8) -> Vec<u8> {
     let marks = record.readable + 2 * record.open_to_programming + 4 * record.open_to_transfer;
+    let marks = marks | filler() << 3;
     let character_limit = if record.kind == RAW { filler() } else { record.character_limit.0 as u8 };
     let length = record.data.len() as u8;
     let mut octets =
@@ -127,8 +127,8 @@ fn leave(memory: &mut [u8], card: &Card) {
     }
 }
 
-/// The places in a sound memory whose octets nothing reads (docs/MEMORY.md, Free octets).
-pub fn free(memory: &[u8]) -> Vec<usize> {
+/// The places in a sound memory whose octets nothing reads, each with the bits that are free (docs/MEMORY.md, Free octets).
+pub fn free(memory: &[u8]) -> Vec<(usize, u8)> {
     let card = card(memory).expect("marks in use");
     let mut places: Vec<usize> = match &card.wait {
         None => (WAIT_ADP..WAIT_NA2.end).collect(),
@@ -143,8 +143,9 @@ pub fn free(memory: &[u8]) -> Vec<usize> {
         places.extend((record.kind == RAW).then_some(start + 3));
         places.extend(start + 6 + record.data.len()..start + ENTRY);
     }
-    places.extend(RECORDS.start + card.records.len() * ENTRY..MEMORY);
-    places
+    places.extend(RECORDS.start + card.records.len() * ENTRY..RECORDS.end);
+    let marks = RECORDS.step_by(ENTRY).take(card.records.len()).map(|start| (start + 4, !7));
+    places.into_iter().map(|place| (place, !0)).chain(marks).collect()
 }
 
 /// 17, then 12 (01, The card).
@@ -186,18 +187,16 @@ pub fn setup(memory: &mut [u8], address: &[u8], key: &[u8], count: u8, entries: 
     }
 }
 
-/// The number, and the length of the reply, 0 where there is none.
-pub fn octet(memory: &mut [u8], octet: u8, number: &[u8], reply: &mut [u8]) -> (Number, usize) {
+/// The length becomes that of the reply, 0 where there is none; 17 and 12 leave it.
+pub fn octet(memory: &mut [u8], octet: u8, number: &[u8], reply: &mut [u8], length: &mut usize) -> Number {
     if number.len() != 8 || reply.len() < LONGEST {
-        return (17, 0);
+        return 17;
     }
-    let mut length = 0;
-    let number = step(memory, |card| {
+    step(memory, |card| {
         let answer = card.octet(octet, number, reply);
-        length = answer.reply;
+        *length = answer.reply;
         answer.number
-    });
-    (number, length)
+    })
 }
 
 pub fn gap(memory: &mut [u8]) -> Number {
@@ -212,17 +211,19 @@ pub fn meter_write(memory: &mut [u8], tab: u8, data: &[u8]) -> Number {
     step(memory, |card| card.meter_write(tab, data).number)
 }
 
-/// The number, and how many octets of the record stand in the first octets of `data`.
-pub fn read(memory: &[u8], tab: u8, data: &mut [u8]) -> (Number, usize) {
+/// The length becomes that of the record in the first octets of `data`, 0 where there is none; 17 and 12 leave it.
+pub fn read(memory: &[u8], tab: u8, data: &mut [u8], length: &mut usize) -> Number {
     let card = match sound_card(memory) {
         Ok(card) => card,
-        Err(number) => return (number, 0),
+        Err(number) => return number,
     };
-    match card.records.iter().find(|record| record.tab == tab) {
-        None => (10, 0),
+    let found = card.records.iter().find(|record| record.tab == tab);
+    *length = found.map_or(0, |record| record.data.len());
+    match found {
+        None => 10,
         Some(record) => {
             put(data, 0..STORED, &record.data);
-            (0, record.data.len())
+            0
         }
     }
 }

@@ -112,7 +112,8 @@ fn faulty_setup(rng: &mut Rng, tally: &mut Tally, memory: &mut [u8]) -> Case {
     let mut call = setup_call(rng, &given);
     if let (Call::Setup { entries, .. }, true) = (&mut call, rng.once_in(4)) {
         // The entries stand as the records do in memory, whose damage fits them too.
-        let mut damaged = [&memory[..RECORDS.start], entries].concat();
+        let mut damaged = memory.to_vec();
+        damaged[RECORDS].copy_from_slice(entries);
         damaged[COUNT] = setup.records.len() as u8;
         random_damage::damage(rng, &mut damaged);
         entries.copy_from_slice(&damaged[RECORDS]);

@@ -36,12 +36,12 @@ impl Lent {
     }
 }
 
-/// The archive libleaf_exports.a: CRC, DES, labels.
-#[cfg(part_leaves)]
-pub mod leaves {
+/// The archive libprimitive_exports.a: CRC, DES, labels.
+#[cfg(part_primitives)]
+pub mod primitives {
     use super::Lent;
 
-    #[link(name = "leaf_exports", kind = "static")]
+    #[link(name = "primitive_exports", kind = "static")]
     extern "C" {
         fn propolisk_crc_key(octets: *const u8, count: usize) -> u16;
         /// C's bool, taken as an octet, so that a value other than 0 and 1 is seen.

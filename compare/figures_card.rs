@@ -70,11 +70,11 @@ fn agreeing(card: &Card, octets: &[u8]) -> usize {
     let (mut number, mut reply) = (Lent::new(&NA2), Lent::new(&[0; LONGEST]));
     let mut buffers = [[0; LONGEST]; 2];
     for octet in octets {
-        let mut length = 0;
+        let (mut length, mut expected) = (0, 0);
         let gave = ours::step_octet(&mut lent, *octet, &mut number, &mut reply, &mut length);
         let answer = card.octet(*octet, &NA2, &mut buffers[1]);
-        assert_eq!((gave, length), card_memory::octet(&mut memory, *octet, &NA2, &mut buffers[0]));
-        assert_eq!((gave, length), (0, answer.reply));
+        assert_eq!(gave, card_memory::octet(&mut memory, *octet, &NA2, &mut buffers[0], &mut expected));
+        assert_eq!((gave, length, length), (0, expected, answer.reply));
         assert!(lent.still_holds(&memory) && buffers.iter().all(|buffer| reply.still_holds(buffer)));
         assert!(answer.number.is_none() && card_memory::card(&memory) == Some(card.clone()));
         replies += (length > 0) as usize;
@@ -86,7 +86,7 @@ fn octet_calls(what: &str, card: &Card, octets: &[u8], replies: usize) {
     assert_eq!(agreeing(card, octets), replies);
     let (mut lent, mut number, mut reply) = (memory_of(card), Lent::new(&NA2), Lent::new(&[0; LONGEST]));
     let (mut memory, mut value) = (lent.octets().to_vec(), card.clone());
-    let (mut buffer, mut other) = ([0; LONGEST], [0; LONGEST]);
+    let (mut buffer, mut other, mut told) = ([0; LONGEST], [0; LONGEST], 0);
     let ours = Box::new(|| {
         for octet in octets {
             let mut length = 0;
@@ -95,7 +95,10 @@ fn octet_calls(what: &str, card: &Card, octets: &[u8], replies: usize) {
         }
     });
     let plain = Box::new(|| {
-        octets.iter().for_each(|octet| keep(card_memory::octet(&mut memory, *octet, &NA2, &mut buffer)))
+        octets.iter().for_each(|octet| {
+            keep(card_memory::octet(&mut memory, *octet, &NA2, &mut buffer, &mut told));
+            keep(told);
+        })
     });
     let plain_value =
         Box::new(|| octets.iter().for_each(|octet| keep(value.octet(*octet, &NA2, &mut other))));

@@ -1,13 +1,13 @@
 /* A meter board with a card in it, and a fitter's tool at the other end of the wire, in one program: a reading, programming with a wrong and a
  * right authentication, meter writes. It prints each frame that the tool sends, what the card answers, and the number that the board gets.
  *
- *   rt staticlib card_exports && rt staticlib frame_exports && rt staticlib leaf_exports
- *   cc -Iinclude examples/card_host.c -Ltarget/staticlib -lcard_exports -lframe_exports -lleaf_exports -o target/card_host
+ *   rt staticlib card_exports && rt staticlib frame_exports && rt staticlib primitive_exports
+ *   cc -Iinclude examples/card_host.c -Ltarget/staticlib -lcard_exports -lframe_exports -lprimitive_exports -o target/card_host
  */
 #include "fresh_number.h"
 #include "propolisk_card.h"
 #include "propolisk_frame.h"
-#include "propolisk_leaf.h"
+#include "propolisk_primitives.h"
 
 #include <stdio.h>
 #include <stdlib.h>
@@ -46,10 +46,11 @@ static void print_frame(const char *way, const uint8_t *frame, size_t count)
     printf("\n");
 }
 
-/* The board hears a frame octet by octet, then the gap after it, and sends the card's reply. */
+/* The board hears a frame octet by octet, then the gap after it, and sends the card's reply. 17 and 12 leave the length, so it is 0 before. */
 static void send_frame(const uint8_t *frame, size_t count)
 {
     uint8_t number = 0, lent[8];
+    reply_length = 0;
     print_frame("sends", frame, count);
     for (size_t i = 0; i < count; i++) {
         fresh_number(lent);
@@ -100,7 +101,7 @@ static void meter_write(uint8_t tab, const char *data)
 static void display(uint8_t tab)
 {
     uint8_t data[PROPOLISK_CARD_DATA];
-    size_t length;
+    size_t length = 0;
     uint8_t number = propolisk_card_read(memory, PROPOLISK_CARD_MEMORY, tab, data, &length);
     printf("the meter's display, TAB %02X: %u \"%.*s\"\n", tab, number, (int)length, (const char *)data);
 }

@@ -16,18 +16,18 @@
  *    over 400 of them, each bit is 0 about as often as 1). The card uses the one lent with the last octet of a REC. If a number comes again,
  *    whoever heard the exchange in which it was used can play that AUT again, and the card will take it for the key's owner. The card tests
  *    the number's length and nothing else.
- *  - A reply goes out on the bus from the front of the reply buffer, `*length` octets of it.
+ *  - A reply goes out on the bus from the front of the reply buffer, `*length` octets of it; after 17 and 12, which leave *length, none does.
  *
  * Numbers that more than one call gives, in the order in which they are tested:
- * 17: the memory is under PROPOLISK_CARD_MEMORY octets, or another buffer has not the length that its call names. Nothing is changed but *length.
+ * 17: the memory is under PROPOLISK_CARD_MEMORY octets, or another buffer has not the length that its call names. Nothing is changed, *length included.
  * 12: the memory does not hold a card: its address is broadcast, its records break what setup's 12, 7, 8 and 9 ask, the wait's DATA is over 100
- *     octets, a mark is not in use, or the partly received frame cannot be one. Nothing is changed but *length. Memory that setup accepted and only these
- *     calls wrote is never refused with 12.
+ *     octets, the mark of the wait or of the receiver is not in use, or the partly received frame cannot be one. Nothing is changed, *length included.
+ *     Memory that setup accepted and only these calls wrote is never refused with 12.
  *  0: done, and nothing was refused.
  * A refusal writes nothing to memory but, where the rules of the bus say so, the receiver and the mark of the waiting exchange.
  *
- * Stack, measured in octets below the caller: setup 22,632, step_octet 56,808, step_gap 28,248, step_session_end 33,624, meter_write 33,352,
- * read 33,144 (examples/call_stack.c). The card's records are taken out of the memory whole for each call, which is where the stack goes.
+ * Stack, measured in octets below the caller: setup 17,256, step_octet 56,840, step_gap 28,664, step_session_end 28,776, meter_write 33,352,
+ * read 33,560 (examples/call_stack.c). The card's records are taken out of the memory whole for each call, which is where the stack goes.
  * Nothing is allocated elsewhere.
  *
  * The archive is for x86-64 Linux today, since that is what `rt staticlib` compiles for. A board of another kind needs a kit that compiles for
@@ -53,7 +53,7 @@
 /* The second octet of an entry: what sort of record it is. */
 #define PROPOLISK_CARD_RAW 0
 #define PROPOLISK_CARD_LABEL 1
-/* The fifth octet of an entry: a sum of these. */
+/* The fifth octet of an entry: a sum of these. Its other bits are free: they are never read, and kept. */
 #define PROPOLISK_CARD_READABLE 1
 #define PROPOLISK_CARD_PROGRAMMING 2
 #define PROPOLISK_CARD_TRANSFER 4
@@ -66,7 +66,7 @@
  *     octets) stays as it was.
  * 17: the memory is too short, the address has not 6 octets or the key not 8.
  *  6: the address is 000000000000, which is broadcast.
- * 12: more than 32 records, a TAB twice, a kind or mark that is not in use, or a limit over 116.
+ * 12: more than 32 records, a TAB twice, a kind that is neither raw nor label, or a limit over 116.
  *  7, 8, 9: the first record whose contents are not acceptable has more octets than its limit, is an ill-formed label, or has more characters
  *     than its limit.
  * Any refusal leaves the memory as it was. */
@@ -74,7 +74,7 @@ uint8_t propolisk_card_setup(uint8_t *memory, size_t room, const uint8_t *addres
                              size_t key_count, uint8_t count, const uint8_t entries[PROPOLISK_CARD_ENTRIES]);
 
 /* An octet came over the bus. NA2 is the number of 8 octets that is lent anew with every octet (see above); the reply buffer has 128 octets or more.
- * *length is always written: the length of the reply that now stands at the front of the reply buffer, or 0. Octets past the reply are kept.
+ * *length becomes the length of the reply that now stands at the front of the reply buffer, or 0; 17 and 12 leave it. Octets past the reply are kept.
  *  0: the octet was taken in; where *length is not 0 it completed a frame that has a reply (DAT, ECH, EOS, TRA).
  * 17: the memory is too short, NA2 has not 8 octets, or the reply buffer has not 128; tested with every octet, also inside a frame.
  * 12: see above.
@@ -97,9 +97,9 @@ uint8_t propolisk_card_step_session_end(uint8_t *memory, size_t room);
  * Any refusal leaves the memory as it was. */
 uint8_t propolisk_card_meter_write(uint8_t *memory, size_t room, uint8_t tab, const uint8_t *data, size_t count);
 
-/* The meter itself reads a record, for its display, whatever its marks. The memory is not changed. *length is always written.
+/* The meter itself reads a record, for its display, whatever its marks. The memory is not changed.
  *  0: the record is the first *length octets of `data`, whose other octets are kept.
- * 17, 12: see above.   10: no such record. Refused, *length is 0 and `data` is kept. */
+ * 17, 12: see above.   10: no such record; *length is 0. Refused, `data` is kept. */
 uint8_t propolisk_card_read(const uint8_t *memory, size_t room, uint8_t tab, uint8_t data[PROPOLISK_CARD_DATA], size_t *length);
 
 #endif

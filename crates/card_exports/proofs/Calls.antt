@@ -6,59 +6,58 @@ use mathlib.Core.List.{List}
 use lib.Dec.{eqb}
 use lib.ListN.{length}
 use borrow.Author.Tests.{le-leb, lt-leb, eq-eqb, ne-eqb}
-use Rattle.card.specs.declared.Answered.{Answered}
-use Rattle.card.specs.Numbers.{numberOf}
+use Rattle.numbers.specs.Table.{brokenRule, wrongLength}
+use Rattle.card.specs.declared.Card.{Card}
 use Rattle.card.specs.Soundness.{sound}
-use Rattle.card.specs.Events.{Call, Gap, SessionEnd, MeterWrite, after, afterGap, afterSessionEnd, afterMeterWrite}
+use Rattle.card.specs.Events.{Call, Octet, Gap, SessionEnd, MeterWrite, after, afterOctet, afterGap, afterSessionEnd, afterMeterWrite}
 use Rattle.card.proofs.Keeping.{course}
-use Rattle.card_memory.specs.Decoding.{size, decoded}
-use Rattle.card_memory.specs.Marks.{marksInUse}
+use Rattle.card_memory.specs.Layout.{size}
+use Rattle.card_memory.specs.Decoding.{decoded}
+use Rattle.card_memory.specs.Encoding.{encoded}
+use Rattle.card_memory.specs.Legibility.{legible}
 use Rattle.card_memory.proofs.Shape.{decoded-whole}
-use Rattle.card_exports.specs.Outcome.{Outcome, refused, soundMemory, called, done, finished}
+use Rattle.card_exports.specs.Outcome.{refused, soundMemory, lentRight, done, callOutcome, finished}
+
+-- an unsound card is refused with 12, after 17
+broken-number : (c : Card) → sound c ≡ false → (k : Call) → lentRight k ≡ true → after c k .number ≡ brokenRule
+unfolding after afterOctet afterGap afterSessionEnd afterMeterWrite
+broken-number c e (Octet o loan) f = rw (f, e)
+broken-number c e Gap f = rw e
+broken-number c e SessionEnd f = rw e
+broken-number c e (MeterWrite t d) f = rw e
 
 module _ (m : List ℕ) where
-  pub too-short : length m < size → (made : Outcome) → called m made ≡ refused 17 m
-  too-short h made = rw (lt-leb size (length m) h)
+  pub too-short : length m < size → (k : Call) → callOutcome m k ≡ refused wrongLength m
+  unfolding callOutcome
+  too-short h k = rw (lt-leb size (length m) h)
 
-  pub unmarked : marksInUse m ≡ false → soundMemory m ≡ false
+  pub illegible-unsound : legible m ≡ false → soundMemory m ≡ false
   unfolding soundMemory
-  unmarked e = rw e
+  illegible-unsound e = rw e
 
-  pub marked : marksInUse m ≡ true → soundMemory m ≡ sound (decoded m)
+  pub legible-sound : legible m ≡ true → soundMemory m ≡ sound (decoded m)
   unfolding soundMemory
-  marked e = rw e
+  legible-sound e = rw e
 
-  pub unsound : size ≤ length m → soundMemory m ≡ false → (made : Outcome) → called m made ≡ refused 12 m
-  unsound h e made = rw (le-leb size (length m) h, e)
+  -- a call in memory that is long enough, with what is lent with it of the right lengths
+  module _ (h : size ≤ length m) (k : Call) (lent : lentRight k ≡ true) where
+    pub unsound : soundMemory m ≡ false → callOutcome m k ≡ refused brokenRule m
+    unfolding callOutcome
+    unsound e = rw (le-leb size (length m) h, lent, e)
 
-  pub sound-called : size ≤ length m → soundMemory m ≡ true → (made : Outcome) → called m made ≡ made
-  sound-called h e made = rw (le-leb size (length m) h, e)
+    pub sound-called : soundMemory m ≡ true → callOutcome m k ≡ done m (after (decoded m) k)
+    unfolding callOutcome
+    sound-called e = rw (le-leb size (length m) h, lent, e)
 
-  pub out-of-use : size ≤ length m → marksInUse m ≡ false → (made : Outcome) → called m made ≡ refused 12 m
-  out-of-use h e made = unsound h (unmarked e) made
+    pub illegible-called : legible m ≡ false → callOutcome m k ≡ refused brokenRule m
+    illegible-called e = unsound (illegible-unsound e)
 
-  -- a card by value is refused with 12 exactly if it is not sound
-  pub settled : size ≤ length m → marksInUse m ≡ true → (a : Answered) (k : Call) → numberOf (a .answer) ≡ numberOf (after (decoded m) k .answer)
-      → (sound (decoded m) ≡ false → numberOf (a .answer) ≡ 12) → finished m a ≡ cond (soundMemory m) (done m a) (refused 12 m)
-  unfolding finished
-  settled h e a k same broken = rw (marked e) (by (sound (decoded m)) refl)
-    where
-      by : (b : Bool) → sound (decoded m) ≡ b → cond (eqb (numberOf (a .answer)) 12) (refused 12 m) (done m a) ≡ cond b (done m a) (refused 12 m)
-      by true s = rw (ne-eqb (numberOf (a .answer)) 12 (λ t. course (decoded m) (decoded-whole m h s) k .unbroken (sym same ∙ t)))
-      by false s = rw (eq-eqb (numberOf (a .answer)) 12 (broken s))
-
-  abbrev Finishes : Answered → Type 0
-  Finishes a = finished m a ≡ called m (done m a)
-
-  module _ (h : size ≤ length m) (e : marksInUse m ≡ true) where
-    pub gap-finished : Finishes (afterGap (decoded m))
-    unfolding after afterGap
-    gap-finished = rw (le-leb size (length m) h) (settled h e (afterGap (decoded m)) Gap refl (λ s. rw s))
-
-    pub session-end-finished : Finishes (afterSessionEnd (decoded m))
-    unfolding after afterSessionEnd
-    session-end-finished = rw (le-leb size (length m) h) (settled h e (afterSessionEnd (decoded m)) SessionEnd refl (λ s. rw s))
-
-    pub meter-write-finished : (t : ℕ) (d : List ℕ) → Finishes (afterMeterWrite (decoded m) t d)
-    unfolding after afterMeterWrite
-    meter-write-finished t d = rw (le-leb size (length m) h) (settled h e (afterMeterWrite (decoded m) t d) (MeterWrite t d) refl (λ s. rw s))
+    -- a card by value is refused with 12 exactly if it is not sound
+    pub call-finished : legible m ≡ true → (n : ℕ) (c : Card) → n ≡ after (decoded m) k .number → c ≡ after (decoded m) k .card → finished m n c ≡ callOutcome m k
+    unfolding callOutcome finished
+    call-finished e n c same card = rw (le-leb size (length m) h, lent, legible-sound e, card) (by (sound (decoded m)) refl)
+      where
+        by : (b : Bool) → sound (decoded m) ≡ b
+            → cond (eqb n brokenRule) (refused brokenRule m) (record { number = n; memory = encoded (after (decoded m) k .card) m }) ≡ cond b (done m (after (decoded m) k)) (refused brokenRule m)
+        by true s = rw (ne-eqb n brokenRule (λ t. course (decoded m) (decoded-whole m h s) k .unbroken (sym same ∙ t)), same)
+        by false s = rw (eq-eqb n brokenRule (same ∙ broken-number (decoded m) s k lent))

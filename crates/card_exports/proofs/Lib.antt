@@ -1,6 +1,8 @@
-mod Calls
-mod OctetCall
+pub mod Calls
+pub mod OctetCall
+pub mod Refusals
 mod Judging
 mod Finding
 pub mod Accepting
 pub mod Unchanged
+pub mod Leaving

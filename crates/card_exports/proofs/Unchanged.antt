@@ -1,132 +1,118 @@
--- What stays of what is lent (01, Numbers handed back): at 12 and 17 everything, for every exported call; a refused meter write, setup or reading leaves everything too.
+-- At 12 and 17 everything stays of what is lent, for every memory and every call; a refused setup or reading leaves all that it could write but, with 10, the cell.
 use Prim.Native.Nat.{ℕ, _≤_}
-use mathlib.Core.Path.{_≡_, refl, ap, subst, _∙_}
-use mathlib.Core.Bool.{Bool, true, false, cond, _&&_, and-eq-true-iff}
+use mathlib.Core.Path.{_≡_, refl, sym, ap, subst, _∙_}
+use mathlib.Core.Bool.{Bool, true, false, cond, and-eq-true-iff}
 use mathlib.Core.List.{List}
-use mathlib.Core.Logic.{_⊎_, inl, inr}
-use native.Mathlib.Decide.{decLe}
+use mathlib.Core.Logic.{inl, inr}
 use native.Mathlib.Omega.{arith}
 use lib.Dec.{eqb, leb}
 use lib.ListN.{length}
 use borrow.Author.Tests.{leb-true}
-use Rattle.octets.specs.Splice.{fronted}
-use Rattle.octets.proofs.Below.{Below}
-use Rattle.records.specs.declared.Found.{Found}
-use Rattle.records.specs.declared.Found.the-variants as found
+use Rattle.numbers.specs.Table.{none, tooLong, notOpen, brokenRule, wrongLength}
+use Rattle.numbers.specs.Answer.{Answer, given, refused, refusedAt}
 use Rattle.records.specs.Finding.{attributesOf, find}
-use Rattle.card.specs.declared.Card.{Card}
-use Rattle.card.specs.declared.Answered.{Answered}
-use Rattle.card.specs.Numbers.{numberOf}
+use Rattle.records.proofs.Refusals.{Bounded, find-bounded}
+use Rattle.card.specs.Loan.{lending}
 use Rattle.card.specs.Soundness.{sound}
-use Rattle.card.specs.Events.{Call, Octet, Gap, SessionEnd, after, afterOctet, afterGap, afterSessionEnd, afterMeterWrite}
-use Rattle.card.proofs.Keeping.{Whole, course, meter-write-refused}
-use Rattle.card_memory.specs.Decoding.{size, decoded}
-use Rattle.card_memory.specs.Encoding.{encoded}
-use Rattle.card_memory.specs.Marks.{marksInUse}
+use Rattle.card.specs.Events.{Call, Octet, after, afterOctet}
+use Rattle.card.proofs.Keeping.{Whole, course}
+use Rattle.card_memory.specs.Layout.{size}
+use Rattle.card_memory.specs.Decoding.{decoded}
+use Rattle.card_memory.specs.Legibility.{legible}
 use Rattle.card_memory.specs.Setup.{setUp}
 use Rattle.card_memory.proofs.Shape.{decoded-whole}
-use Rattle.card_memory.proofs.Memory.{encoded-decoded}
-use Rattle.card_exports.specs.Outcome.{Outcome, refused, soundMemory, called, done, gapOutcome, sessionEndOutcome, meterWriteOutcome, lengthsFit, unreplied, replied, octetOutcome}
+use Rattle.card_exports.specs.Outcome as outcome
+use Rattle.card_exports.specs.Outcome.{Outcome, soundMemory, lentRight, lengthsFit, done, callOutcome, unreplied, replied, octetOutcome}
 use Rattle.card_exports.specs.Observing.{unshown, shownFor, readOutcome}
 use Rattle.card_exports.specs.Setup.{setupNumber, settled, setupOutcome}
-use Rattle.card_exports.proofs.Calls.{too-short, unsound, sound-called}
+use Rattle.card_exports.specs.Leaving.{Unmade}
+use Rattle.card_exports.proofs.Refusals.{lent-made}
 
--- "A call refused with 12 or 17 counts as not made." (00, demand 3)
-abbrev pub Unmade : ℕ → Type 0
-Unmade n = (n ≡ 12) ⊎ (n ≡ 17)
+-- a call that passes the tests for 17 and 12
+pub record Passed (m : List ℕ) (k : Call) : Type 0 where
+  pub long : size ≤ length m
+  pub lent : lentRight k ≡ true
+  pub readable : legible m ≡ true
+  pub sound : sound (decoded m) ≡ true
+  pub whole : Whole (decoded m)
 
--- a memory that is octets
-module _ (m : List ℕ) (octets : Below 256 m) where
-  back : size ≤ length m → soundMemory m ≡ true → encoded (decoded m) m ≡ m
-  unfolding soundMemory
-  back h s = encoded-decoded m h (and-eq-true-iff (marksInUse m) (sound (decoded m)) .0 s .0) octets
+pub call-passed : (m : List ℕ) (k : Call) → lengthsFit m k ≡ true → soundMemory m ≡ true → Passed m k
+unfolding soundMemory
+call-passed m k e s =
+    let fits = and-eq-true-iff (leb size (length m)) (lentRight k) .0 e in
+    let both = and-eq-true-iff (legible m) (sound (decoded m)) .0 s in
+    let long = leb-true size (length m) (fits .0) in
+    record { long = long; lent = fits .1; readable = both .0; sound = both .1; whole = decoded-whole m long (both .1) }
 
-  whole : size ≤ length m → soundMemory m ≡ true → Whole (decoded m)
-  unfolding soundMemory
-  whole h s = decoded-whole m h (and-eq-true-iff (marksInUse m) (sound (decoded m)) .0 s .1)
+-- it gets neither
+pub passed-made : (m : List ℕ) (k : Call) → Passed m k → Unmade (after (decoded m) k .number) → ⊥
+passed-made m k p (inl e) = course (decoded m) (p .whole) k .unbroken e
+passed-made m k p (inr e) = omega (arith, e, lent-made (decoded m) (p .sound) k (p .lent))
 
-  -- on sound memory no call gives 12, and where it gives 17 the card stays as it was
-  unmade-card : size ≤ length m → soundMemory m ≡ true → (k : Call) → Unmade (numberOf (after (decoded m) k .answer)) → after (decoded m) k .card ≡ decoded m
-  unmade-card h s k (inl e) = absurd (course (decoded m) (whole h s) k .unbroken e)
-  unmade-card h s k (inr e) = course (decoded m) (whole h s) k .unmade e .0
+pub call-unmade : (m : List ℕ) (k : Call) → Unmade (callOutcome m k .number) → callOutcome m k ≡ outcome.refused (callOutcome m k .number) m
+unfolding callOutcome
+call-unmade m k = go (lengthsFit m k) (soundMemory m) refl refl
+  where
+    go : (x y : Bool) → lengthsFit m k ≡ x → soundMemory m ≡ y
+        → let r = cond x (cond y (done m (after (decoded m) k)) (outcome.refused brokenRule m)) (outcome.refused wrongLength m) in
+        Unmade (r .number) → r ≡ outcome.refused (r .number) m
+    go true true e s u = absurd (passed-made m k (call-passed m k e s) u)
+    go true false e s u = refl
+    go false y e s u = refl
 
-  -- a call without a buffer leaves the memory if it does so on sound memory
-  called-leaves : (made : Outcome) → (size ≤ length m → soundMemory m ≡ true → called m made .memory ≡ m) → called m made .memory ≡ m
-  called-leaves made f = go (decLe size (length m)) (soundMemory m) refl
-    where
-      go : Dec (size ≤ length m) → (y : Bool) → soundMemory m ≡ y → called m made .memory ≡ m
-      go (no h) y e = ap (λ (o : Outcome). o .memory) (too-short m (omega arith) made)
-      go (yes h) false e = ap (λ (o : Outcome). o .memory) (unsound m h e made)
-      go (yes h) true e = f h e
+-- an octet leaves the reply buffer and the cell too
+pub octet-unmade : (m : List ℕ) (o : ℕ) (na2 reply : List ℕ) (cell : ℕ) → Unmade (octetOutcome m o na2 reply cell .number) → octetOutcome m o na2 reply cell ≡ unreplied (octetOutcome m o na2 reply cell .number) m reply cell
+unfolding octetOutcome after
+octet-unmade m o na2 reply cell = go (lengthsFit m k) (soundMemory m) refl refl
+  where
+    k : Call
+    k = Octet o (lending na2 reply)
 
-  called-unmade : (a : Answered) → (size ≤ length m → soundMemory m ≡ true → Unmade (numberOf (a .answer)) → a .card ≡ decoded m)
-      → Unmade (called m (done m a) .number) → called m (done m a) .memory ≡ m
-  called-unmade a f u =
-      called-leaves (done m a)
-      (λ h s.
-      let q = sound-called m h s (done m a) in
-      ap (λ (o : Outcome). o .memory) q
-      ∙ ap (λ (c : Card). encoded c m) (f h s (subst (λ (o : Outcome). Unmade (o .number)) q u))
-      ∙ back h s)
-
-  pub gap-unmade : Unmade (gapOutcome m .number) → gapOutcome m .memory ≡ m
-  unfolding gapOutcome after
-  gap-unmade = called-unmade (afterGap (decoded m)) (λ h s u. unmade-card h s Gap u)
-
-  pub session-end-unmade : Unmade (sessionEndOutcome m .number) → sessionEndOutcome m .memory ≡ m
-  unfolding sessionEndOutcome after
-  session-end-unmade = called-unmade (afterSessionEnd (decoded m)) (λ h s u. unmade-card h s SessionEnd u)
-
-  -- an octet leaves the reply buffer too, and the length is 0
-  pub octet-unmade : (o : ℕ) (na2 reply : List ℕ) → Unmade (octetOutcome m o na2 reply .number) → octetOutcome m o na2 reply ≡ unreplied (octetOutcome m o na2 reply .number) m reply
-  unfolding octetOutcome fronted after
-  octet-unmade o na2 reply = go (lengthsFit (length m) (length na2) (length reply)) (soundMemory m) refl refl
-    where
-      go : (x y : Bool) → lengthsFit (length m) (length na2) (length reply) ≡ x → soundMemory m ≡ y
-          → let r = cond x (cond y (replied m reply (afterOctet (decoded m) o na2 (length reply))) (unreplied 12 m reply)) (unreplied 17 m reply) in
-          Unmade (r .number) → r ≡ unreplied (r .number) m reply
-      go true true p q (inl e) =
-          let h = leb-true size (length m) (and-eq-true-iff (leb size (length m)) (eqb (length na2) 8 && leb 128 (length reply)) .0 p .0) in
-          absurd (course (decoded m) (whole h q) (Octet o na2 (length reply)) .unbroken e)
-      go true true p q (inr e) =
-          let h = leb-true size (length m) (and-eq-true-iff (leb size (length m)) (eqb (length na2) 8 && leb 128 (length reply)) .0 p .0) in
-          let u = course (decoded m) (whole h q) (Octet o na2 (length reply)) .unmade e in
-          rw (u .1, ap (λ (c : Card). encoded c m) (u .0) ∙ back h q)
-      go true false p q u = refl
-      go false y p q u = refl
-
-  -- a refused meter write leaves every octet: 17, 12, 10, 7, 8 and 9
-  pub meter-write-unchanged : (t : ℕ) (d : List ℕ) → (meterWriteOutcome m t d .number ≡ 0 → ⊥) → meterWriteOutcome m t d .memory ≡ m
-  unfolding meterWriteOutcome
-  meter-write-unchanged t d n =
-      let made = done m (afterMeterWrite (decoded m) t d) in
-      called-leaves made
-      (λ h s.
-      let q = sound-called m h s made in
-      ap (λ (o : Outcome). o .memory) q
-      ∙ ap (λ (c : Card). encoded c m) (meter-write-refused (decoded m) t d (λ z. n (ap (λ (o : Outcome). o .number) q ∙ z)))
-      ∙ back h s)
+    go : (x y : Bool) → lengthsFit m k ≡ x → soundMemory m ≡ y
+        → let r = cond x (cond y (replied m reply (afterOctet (decoded m) o (lending na2 reply))) (unreplied brokenRule m reply cell)) (unreplied wrongLength m reply cell) in
+        Unmade (r .number) → r ≡ unreplied (r .number) m reply cell
+    go true true e s u = absurd (passed-made m k (call-passed m k e s) u)
+    go true false e s u = refl
+    go false y e s u = refl
 
 -- a refused setup leaves the memory, whatever it held
-pub setup-unchanged : (m address key : List ℕ) (count : ℕ) (entries : List ℕ) → (setupOutcome m address key count entries .number ≡ 0 → ⊥) → setupOutcome m address key count entries .memory ≡ m
+pub setup-unchanged : (m address key : List ℕ) (count : ℕ) (entries : List ℕ) → (setupOutcome m address key count entries .number ≡ none → ⊥) → setupOutcome m address key count entries .memory ≡ m
 unfolding setupOutcome
 setup-unchanged m address key count entries = go (leb size (length m)) (setupNumber address key count entries) (setUp address key count entries m)
   where
-    by : (b : Bool) (n : ℕ) (fresh : List ℕ) → (cond b (record { number = 0; memory = fresh }) (refused n m) .number ≡ 0 → ⊥) → cond b (record { number = 0; memory = fresh }) (refused n m) .memory ≡ m
+    by : (b : Bool) (n : ℕ) (fresh : List ℕ) → (cond b (record { number = none; memory = fresh }) (outcome.refused n m) .number ≡ none → ⊥) → cond b (record { number = none; memory = fresh }) (outcome.refused n m) .memory ≡ m
     by true n fresh k = absurd (k refl)
     by false n fresh k = refl
 
-    go : (x : Bool) (n : ℕ) (fresh : List ℕ) → (cond x (settled n fresh m) (refused 17 m) .number ≡ 0 → ⊥) → cond x (settled n fresh m) (refused 17 m) .memory ≡ m
-    go true n fresh k = by (eqb n 0) n fresh k
+    go : (x : Bool) (n : ℕ) (fresh : List ℕ) → (cond x (settled n fresh m) (outcome.refused wrongLength m) .number ≡ none → ⊥) → cond x (settled n fresh m) (outcome.refused wrongLength m) .memory ≡ m
+    go true n fresh k = by (eqb n none) n fresh k
     go false n fresh k = refl
 
--- a refused reading leaves the array, and the length is 0
-pub read-unchanged : (m : List ℕ) (t : ℕ) (before : List ℕ) → (readOutcome m t before .number ≡ 0 → ⊥) → readOutcome m t before ≡ unshown (readOutcome m t before .number) before
-unfolding readOutcome shownFor
-read-unchanged m t before = go (leb size (length m)) (soundMemory m) (find (attributesOf (decoded m .records)) t)
-  where
-    go : (x y : Bool) (f : Found) → let r = cond x (cond y (shownFor f (decoded m) before) (unshown 12 before)) (unshown 17 before) in (r .number ≡ 0 → ⊥) → r ≡ unshown (r .number) before
-    go true true (found.Refused refusal) k = refl
-    go true true (found.At i) k = absurd (k refl)
-    go true false f k = refl
-    go false y f k = refl
+-- a refused reading leaves the array, and 17 and 12 the cell too
+module _ (m : List ℕ) (t : ℕ) (before : List ℕ) (cell : ℕ) where
+  pub read-unchanged : (readOutcome m t before cell .number ≡ none → ⊥) → readOutcome m t before cell .shown ≡ before
+  unfolding readOutcome shownFor
+  read-unchanged = go (leb size (length m)) (soundMemory m) (find (attributesOf (decoded m .records)) t)
+    where
+      go : (x y : Bool) (f : Answer ℕ) → let r = cond x (cond y (shownFor f (decoded m) before) (unshown brokenRule before cell)) (unshown wrongLength before cell) in (r .number ≡ none → ⊥) → r .shown ≡ before
+      go true true (refused n) k = refl
+      go true true (refusedAt n offset) k = refl
+      go true true (given i) k = absurd (k refl)
+      go true false f k = refl
+      go false y f k = refl
+
+  pub read-unmade : Unmade (readOutcome m t before cell .number) → readOutcome m t before cell ≡ unshown (readOutcome m t before cell .number) before cell
+  unfolding readOutcome shownFor
+  read-unmade = go (leb size (length m)) (soundMemory m) (find (attributesOf (decoded m .records)) t) (find-bounded (attributesOf (decoded m .records)) t)
+    where
+      never : (n : ℕ) → n ≤ notOpen → Unmade n → ⊥
+      never n h (inl e) = omega arith
+      never n h (inr e) = omega arith
+
+      go : (x y : Bool) (f : Answer ℕ) → Bounded f
+          → let r = cond x (cond y (shownFor f (decoded m) before) (unshown brokenRule before cell)) (unshown wrongLength before cell) in Unmade (r .number) → r ≡ unshown (r .number) before cell
+      go true true (refused n) h u = absurd (never n (h .1) u)
+      go true true (refusedAt n offset) h u = absurd h
+      go true true (given i) h u = absurd (never none (omega arith) u)
+      go true false f h u = refl
+      go false y f h u = refl

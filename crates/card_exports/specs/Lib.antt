@@ -1,3 +1,4 @@
 pub mod Outcome
 pub mod Observing
 pub mod Setup
+pub mod Leaving

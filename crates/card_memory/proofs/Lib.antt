@@ -1,11 +1,11 @@
 pub mod RecordRuns
-mod MarkRuns
+mod KindRuns
 mod ContentsRuns
+mod Turns
 pub mod Shape
-pub mod Splices
-pub mod ContentsBack
-pub mod StationBack
+pub mod CardPuts
 pub mod RoundTrip
+pub mod Held
 pub mod EncodableCards
-pub mod Refusing
-pub mod Memory
+pub mod FreshMemory
+pub mod Front

@@ -9,6 +9,7 @@ use lib.ListN.{length, take, drop, getD, set}
 use lib.Seq.{paste-suc}
 use Rattle.octets.specs.Part.{partOf}
 use Rattle.records.specs.Finding.{blank}
+use Rattle.card_memory.specs.Layout.{recordSize}
 use Rattle.card_memory.specs.Decoding.{recordIn, recordsIn}
 
 -- an array filled up to i with the elements of d, with one more
@@ -18,14 +19,14 @@ fill-next d a z i h k = rw add-one (simp zero-add at (paste-suc a 0 d i z (rw ze
 pub length-records : (n at : ℕ) (m : List ℕ) → length (recordsIn n at m) ≡ n
 unfolding recordsIn
 length-records zero at m = refl
-length-records (suc n) at m = ap suc (length-records n (at + 122) m)
+length-records (suc n) at m = ap suc (length-records n (at + recordSize) m)
 
-pub record-at : (n i at : ℕ) (m : List ℕ) → i < n → getD (recordsIn n at m) i blank ≡ recordIn (partOf m (at + 122 * i) (at + 122 * i + 122))
+pub record-at : (n i at : ℕ) (m : List ℕ) → i < n → getD (recordsIn n at m) i blank ≡ recordIn (partOf m (at + recordSize * i) (at + recordSize * i + recordSize))
 unfolding recordsIn
 record-at zero i at m h = let z : ⊥ = omega arith in absurd z
 record-at (suc n) zero at m h =
-    let e : at + 122 * 0 ≡ at = omega arith in
+    let e : at + recordSize * 0 ≡ at = omega arith in
     rw e
 record-at (suc n) (suc i) at m h =
-    let e : at + 122 + 122 * i ≡ at + 122 * suc i = omega arith in
-    record-at n i (at + 122) m (omega arith) ∙ rw e
+    let e : at + recordSize + recordSize * i ≡ at + recordSize * suc i = omega arith in
+    record-at n i (at + recordSize) m (omega arith) ∙ rw e

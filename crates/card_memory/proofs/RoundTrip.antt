@@ -1,140 +1,215 @@
--- Decoding an encoded card gives the card back, and a card that a call reaches can be encoded where the card before stood.
-use Prim.Native.Nat.{ℕ, _+_, _*_, _≤_, _<_, min}
-use mathlib.Core.Path.{_≡_, sym, ap, _∙_}
-use mathlib.Core.Bool.{true, _&&_, and-eq-true-iff}
+-- Decoding an encoded card gives the card back, and what encoding leaves as it was.
+use Prim.Native.Nat.{ℕ, zero, suc, _+_, _*_, _≤_, _<_, min}
+use mathlib.Core.Path.{_≡_, refl, sym, ap, _∙_}
+use mathlib.Core.Bool.{Bool, true, false, _&&_, and-eq-true-iff}
 use mathlib.Core.List.{List}
 use native.Mathlib.Omega.{arith}
 use lib.Dec.{leb}
 use lib.ListN.{length, getD}
+use lib.Seq.{ext-getD}
 use Rattle.octets.specs.Part.{partOf}
-use Rattle.octets.proofs.Parts.{part-agree}
+use Rattle.octets.proofs.Parts.{length-part, getD-part}
 use Rattle.records.specs.declared.Record.{Record}
 use Rattle.records.specs.Finding.{blank}
-use Rattle.receiver_memory.specs.Fields.{fieldAt}
+use Rattle.receiver_memory.specs.Fields.{markOf, fieldAt}
+use Rattle.receiver_memory.specs.Puts.{Put, put}
 use Rattle.receiver_memory.specs.Receiver as receiver
-use Rattle.receiver_memory.proofs.Fields.{field-part}
-use Rattle.receiver_memory.proofs.Receiver.{decoded-image}
-use Rattle.card.specs.declared.Phase.the-variants.{Idle}
+use Rattle.receiver_memory.proofs.Fields.{narrowed-fits}
+use Rattle.receiver_memory.proofs.Puts.{Among, here, later, AllSpare, put-all-length, put-there, spared, field-agree, field-is}
+use Rattle.receiver_memory.proofs.Receiver.{image-length, decoded-image}
+use Rattle.card.specs.declared.Phase.{Phase}
+use Rattle.card.specs.declared.Phase.the-variants.{Idle, Waiting}
 use Rattle.card.specs.declared.Card.{Card}
-use Rattle.card_memory.specs.Decoding.{size, recordsIn, phaseIn, decoded}
-use Rattle.card_memory.specs.Encoding.{withContents, withStation, encoded}
-use Rattle.card_memory.specs.Marks.{marksFrom, marksInUse}
-use Rattle.card_memory.proofs.ContentsBack.{AllFit, fits-agree, contents-length, contents-before, contents-past, contents-fixed, records-back, marks-agree, marks-kept}
-use Rattle.card_memory.proofs.StationBack.{Shaped, station-length, station-before, station-past, station-idle, receiver-part, na2-part, waiting-part, phase-back, wait-mark, receiver-mark}
+use Rattle.card.specs.Soundness.{waitingLength}
+use Rattle.card_memory.specs.Layout.{addressAt, addressSize, keyAt, keySize, waitMarkAt, waitDataAt, waitDataSize, na2At, na2Size, countAt, recordsAt, kindAt, lengthAt, storageAt, storageSize, recordSize, recordPlaces, receiverAt, receiverMarkAt, size}
+use Rattle.card_memory.specs.Decoding.{attributesIn, recordIn, recordsIn, phaseIn, identityIn, decoded}
+use Rattle.card_memory.specs.Encoding.{phaseImage, contentsImage, cardPuts, encoded}
+use Rattle.card_memory.specs.Legibility.{kindsKnown, marksInUse, usedKindsKnown, legible}
+use Rattle.card_memory.proofs.RecordRuns.{length-records, record-at}
+use Rattle.card_memory.proofs.Shape.{part-long}
+use Rattle.card_memory.proofs.CardPuts.{contents-length, contents-among, phase-length, Shaped, card-rising, in-wait, in-contents, in-receiver, identity-spare, count-spare, attributes-spare}
 
 -- The memory holds what no call alters of the card, and has room for the rest.
 pub record Encodable (m : List ℕ) (c : Card) : Type 0 where
-  pub address : c .address ≡ fieldAt 6 m 0
-  pub key : c .key ≡ fieldAt 8 m 6
-  pub count : c .records .count ≡ getD m 14 0
-  pub each : length (c .records .each) ≡ 32
-  pub records : AllFit m 256 (c .records .each)
+  pub identity : c .identity ≡ identityIn m
+  pub count : c .records .count ≡ getD m countAt 0
+  pub attributes : (i : ℕ) → i < recordPlaces → attributesIn (partOf m (recordsAt + recordSize * i) (recordsAt + recordSize * i + recordSize)) ≡ getD (c .records .each) i blank .attributes
   pub shaped : Shaped c
 
-module _ (m : List ℕ) (h : size ≤ length m) (c : Card) (encodable : Encodable m c) where
-  abbrev station : List ℕ
-  station = withStation c m
+attributes-agree : (s t : List ℕ) → ((k : ℕ) → k < lengthAt → getD s k 0 ≡ getD t k 0) → attributesIn s ≡ attributesIn t
+unfolding attributesIn
+attributes-agree s t f = rw (f 0 (omega arith), f 1 (omega arith), f 2 (omega arith), f 3 (omega arith), f 4 (omega arith))
 
-  abbrev each : List Record
-  each = c .records .each
+-- the kinds of two memories that agree there
+pub kinds-agree : (n a b : ℕ) (s t : List ℕ) → ((i : ℕ) → i < n → getD s (a + recordSize * i + kindAt) 0 ≡ getD t (b + recordSize * i + kindAt) 0) → kindsKnown n a s ≡ kindsKnown n b t
+unfolding kindsKnown
+kinds-agree zero a b s t f = refl
+kinds-agree (suc n) a b s t f =
+    let here-a : a + recordSize * 0 + kindAt ≡ a + kindAt = omega arith in
+    let here-b : b + recordSize * 0 + kindAt ≡ b + kindAt = omega arith in
+    let first : getD s (a + kindAt) 0 ≡ getD t (b + kindAt) 0 = rw (here-a, here-b) at (f 0 (omega arith)) in
+    rw (
+      first,
+      kinds-agree n (a + recordSize) (b + recordSize) s t
+          (λ i k.
+          let next-a : a + recordSize + recordSize * i + kindAt ≡ a + recordSize * suc i + kindAt = omega arith in
+          let next-b : b + recordSize + recordSize * i + kindAt ≡ b + recordSize * suc i + kindAt = omega arith in
+          rw (next-a, next-b) (f (suc i) (omega arith))),
+    )
 
-  s-length : length station ≡ length m
-  s-length = station-length c m h (encodable .shaped)
+phase-read : (s : List ℕ) (q : Phase) → waitingLength q < 256 → ((k : ℕ) → k < length (phaseImage q) → getD s (waitMarkAt + k) 0 ≡ getD (phaseImage q) k 0) → phaseIn s ≡ q
+unfolding phaseIn
+phase-read s Idle n f = rw (f 0 (omega arith))
+phase-read s (Waiting adp tab k) n f = rw (f 0 (omega arith), f 1 (omega arith), f 2 (omega arith), f 3 (omega arith), narrowed-fits (k .0) n)
 
-  room : 256 + 122 * length each ≤ length station
-  room = omega (arith, s-length, encodable .each)
+phase-mark : (s : List ℕ) (q : Phase) → ((k : ℕ) → k < length (phaseImage q) → getD s (waitMarkAt + k) 0 ≡ getD (phaseImage q) k 0) → leb (getD s waitMarkAt 0) 1 ≡ true
+phase-mark s Idle f = rw (f 0 (omega arith))
+phase-mark s (Waiting adp tab k) f = rw (f 0 (omega arith))
 
-  fit : AllFit station 256 each
-  fit i k =
-      fits-agree station m (256 + 122 * i) (getD each i blank) s-length (omega (arith, s-length, encodable .each))
-      (λ j p. station-past c m h (encodable .shaped) j (omega arith)) (encodable .records i k)
+mark-low : (b : Bool) → leb (markOf b) 1 ≡ true
+mark-low true = refl
+mark-low false = refl
 
-  whole-length : length (withContents 256 each station) ≡ length station
-  whole-length = contents-length each 256 station room fit
+module _ (m : List ℕ) (h : size ≤ length m) (c : Card) (shaped : Shaped c) where
+  abbrev left : List ℕ
+  left = encoded c m
 
-  pub encoded-length : length (encoded c m) ≡ length m
+  pub encoded-length : length left ≡ length m
   unfolding encoded
-  encoded-length = whole-length ∙ s-length
+  encoded-length = put-all-length (cardPuts c) m
 
-  -- an octet before the records, and one before the wait
-  low : (j : ℕ) → j < 256 → getD (encoded c m) j 0 ≡ getD station j 0
+  -- what no run of octets covers is left, and each run stands where it was put
+  pub encoded-spared : (j : ℕ) → AllSpare m j (cardPuts c) → getD left j 0 ≡ getD m j 0
   unfolding encoded
-  low j k = contents-before each 256 station room fit j (omega arith)
+  encoded-spared j a = spared (cardPuts c) m j a
 
-  pub encoded-front : (j : ℕ) → j < 15 → getD (encoded c m) j 0 ≡ getD m j 0
-  encoded-front j k = low j (omega arith) ∙ station-before c m h (encodable .shaped) j k
+  encoded-there : {p : Put} → Among p (cardPuts c) → (k : ℕ) → k < length (p .octets) → getD left (p .at + k) 0 ≡ getD (p .octets) k 0
+  unfolding encoded
+  encoded-there x k lt = put-there (cardPuts c) waitMarkAt size m x (card-rising c shaped) h k lt
 
-  part-low : (a e : ℕ) → e ≤ 256 → partOf (encoded c m) a e ≡ partOf station a e
-  part-low a e k = part-agree (encoded c m) station a e (encoded-length ∙ sym s-length) (λ i p q. low i (omega arith))
-
-  -- a field in front of the wait is as it was
-  front : (n at : ℕ) → at + n ≤ 15 → fieldAt n (encoded c m) at ≡ fieldAt n m at
+  -- a field in front of the wait
+  front : (n at : ℕ) → at + n ≤ waitMarkAt → fieldAt n left at ≡ fieldAt n m at
   front n at k =
-      field-part n (encoded c m) at (omega (arith, encoded-length))
-      ∙ part-agree (encoded c m) m at (at + n) encoded-length (λ i p q. encoded-front i (omega arith))
-      ∙ sym (field-part n m at (omega arith))
+      field-agree n at left m (omega (arith, encoded-length)) (omega arith) (λ j l. encoded-spared (at + j) (identity-spare c shaped m (at + j) (omega arith)))
 
-  records-again : recordsIn 32 256 (encoded c m) ≡ each
-  unfolding encoded
-  records-again = ap (λ (n : ℕ). recordsIn n 256 (withContents 256 each station)) (sym (encodable .each)) ∙ records-back each 256 station room fit
+  phase-there : (k : ℕ) → k < length (phaseImage (c .exchange .phase)) → getD left (waitMarkAt + k) 0 ≡ getD (phaseImage (c .exchange .phase)) k 0
+  phase-there = encoded-there (in-wait c shaped here)
 
-  waiting-again : fieldAt 100 (encoded c m) 19 ≡ c .waiting
-  waiting-again = field-part 100 (encoded c m) 19 (omega (arith, encoded-length)) ∙ part-low 19 119 (omega arith) ∙ waiting-part c m h (encodable .shaped)
+  content-back : fieldAt waitDataSize left waitDataAt ≡ c .exchange .content
+  content-back =
+      field-is waitDataSize waitDataAt left (c .exchange .content) (omega (arith, encoded-length)) (shaped .content)
+      (λ k l. encoded-there (in-wait c shaped (later here)) k (omega (arith, shaped .content)))
 
-  na2-again : fieldAt 8 (encoded c m) 119 ≡ c .na2
-  na2-again = field-part 8 (encoded c m) 119 (omega (arith, encoded-length)) ∙ part-low 119 127 (omega arith) ∙ na2-part c m h (encodable .shaped)
+  na2-back : fieldAt na2Size left na2At ≡ c .exchange .na2
+  na2-back =
+      field-is na2Size na2At left (c .exchange .na2) (omega (arith, encoded-length)) (shaped .na2)
+      (λ k l. encoded-there (in-wait c shaped (later (later here))) k (omega (arith, shaped .na2)))
 
-  receiver-again : receiver.decoded (partOf (encoded c m) 127 256) ≡ c .receiver
-  receiver-again =
-      ap receiver.decoded (part-low 127 256 (omega arith) ∙ receiver-part c m h (encodable .shaped))
-      ∙ decoded-image (c .receiver) (encodable .shaped .octets) (encodable .shaped .counted)
+  image-long : length (receiver.image (c .receiver)) ≡ receiver.size
+  image-long = image-length (c .receiver) (shaped .octets)
 
-  phase-again : phaseIn (encoded c m) ≡ c .phase
-  phase-again = phase-back c m h (encodable .shaped) (encoded c m) low
+  receiver-octet : (k : ℕ) → k < receiver.size → getD left (receiverAt + k) 0 ≡ getD (receiver.image (c .receiver)) k 0
+  receiver-octet k l = encoded-there (in-receiver c shaped) k (omega (arith, image-long))
+
+  receiver-part : partOf left receiverAt size ≡ receiver.image (c .receiver)
+  receiver-part =
+      ext-getD 0 (partOf left receiverAt size) (receiver.image (c .receiver)) (own-long ∙ sym image-long)
+      (λ k l. getD-part left receiverAt size k (omega (arith, encoded-length)) (omega (arith, own-long)) ∙ receiver-octet k (omega (arith, own-long)))
+    where
+      own-long : length (partOf left receiverAt size) ≡ receiver.size
+      own-long = length-part left receiverAt size (omega arith) (omega (arith, encoded-length)) ∙ omega arith
+
+  receiver-back : receiver.decoded (partOf left receiverAt size) ≡ c .receiver
+  receiver-back = ap receiver.decoded receiver-part ∙ decoded-image (c .receiver) (shaped .octets) (shaped .counted)
+
+  -- the i-th record
+  module _ (i : ℕ) (inside : i < recordPlaces) where
+    abbrev at : ℕ
+    at = recordsAt + recordSize * i
+
+    abbrev own : List ℕ
+    own = partOf left at (at + recordSize)
+
+    abbrev r : Record
+    r = getD (c .records .each) i blank
+
+    own-long : length own ≡ recordSize
+    own-long = part-long left at (omega (arith, encoded-length))
+
+    own-octet : (k : ℕ) → k < recordSize → getD own k 0 ≡ getD left (at + k) 0
+    own-octet k l = getD-part left at (at + recordSize) k (omega (arith, encoded-length)) (omega arith)
+
+    stored : length (r .storage) ≡ storageSize
+    stored = shaped .stored i (omega (arith, shaped .each))
+
+    contents-octet : (k : ℕ) → k < suc storageSize → getD left (at + lengthAt + k) 0 ≡ getD (contentsImage r) k 0
+    contents-octet k l =
+        encoded-there (in-contents c shaped (contents-among (c .records .each) recordsAt i (omega (arith, shaped .each)))) k
+        (omega (arith, contents-length r stored))
+
+    attributes-kept : attributesIn own ≡ attributesIn (partOf m at (at + recordSize))
+    attributes-kept =
+        attributes-agree own (partOf m at (at + recordSize))
+        (λ k l.
+        own-octet k (omega arith) ∙ encoded-spared (at + k) (attributes-spare c shaped m i k inside l)
+        ∙ sym (getD-part m at (at + recordSize) k (omega arith) (omega arith)))
+
+    length-back : getD own lengthAt 0 ≡ r .length .0
+    unfolding contentsImage
+    length-back =
+        let e : at + lengthAt + 0 ≡ at + lengthAt = omega arith in
+        own-octet lengthAt (omega arith) ∙ (rw e at (contents-octet 0 (omega arith))) ∙ narrowed-fits (r .length .0) (shaped .lengths i inside)
+
+    storage-back : fieldAt storageSize own storageAt ≡ r .storage
+    unfolding contentsImage
+    storage-back =
+        field-is storageSize storageAt own (r .storage) (omega (arith, own-long)) stored
+        (λ k l.
+        let e : at + lengthAt + suc k ≡ at + (storageAt + k) = omega arith in
+        own-octet (storageAt + k) (omega arith) ∙ (rw e at (contents-octet (suc k) (omega arith))))
+
+    record-back : attributesIn (partOf m at (at + recordSize)) ≡ r .attributes → recordIn own ≡ r
+    unfolding recordIn
+    record-back e = rw (attributes-kept, e, length-back, storage-back)
+
+  -- the marks are in use, and the kinds are those that were there
+  pub encoded-legible : legible m ≡ true → legible left ≡ true
+  unfolding legible marksInUse receiver.image
+  encoded-legible e =
+      let before = and-eq-true-iff (marksInUse m) (usedKindsKnown (getD m countAt 0) recordsAt m) .0 e in
+      rw (
+        phase-mark left (c .exchange .phase) phase-there,
+        receiver-octet receiver.markAt (omega arith),
+        mark-low (c .receiver .skipping),
+        encoded-spared countAt (count-spare c shaped m),
+      )
+      (kinds-agree (min (getD m countAt 0) recordPlaces) recordsAt recordsAt left m
+      (λ i k. encoded-spared (recordsAt + recordSize * i + kindAt) (attributes-spare c shaped m i kindAt (omega arith) (omega arith)))
+      ∙ before .1)
+
+module _ (m : List ℕ) (h : size ≤ length m) (c : Card) (encodable : Encodable m c) where
+  abbrev shaped : Shaped c
+  shaped = encodable .shaped
+
+  records-back : recordsIn recordPlaces recordsAt (encoded c m) ≡ c .records .each
+  records-back =
+      ext-getD blank (recordsIn recordPlaces recordsAt (encoded c m)) (c .records .each) (length-records recordPlaces recordsAt (encoded c m) ∙ sym (shaped .each))
+      (λ i k.
+      let inside : i < recordPlaces = omega (arith, length-records recordPlaces recordsAt (encoded c m)) in
+      record-at recordPlaces i recordsAt (encoded c m) inside ∙ record-back m h c shaped i inside (encodable .attributes i inside))
 
   pub decoded-encoded : decoded (encoded c m) ≡ c
   unfolding decoded
   decoded-encoded =
       rw (
-        front 6 0 (omega arith),
-        ← encodable .address,
-        front 8 6 (omega arith),
-        ← encodable .key,
-        encoded-front 14 (omega arith),
+        front m h c shaped addressSize addressAt (omega arith),
+        front m h c shaped keySize keyAt (omega arith),
+        ← encodable .identity,
+        encoded-spared m h c shaped countAt (count-spare c shaped m),
         ← encodable .count,
-        records-again,
-        phase-again,
-        waiting-again,
-        na2-again,
-        receiver-again,
+        records-back,
+        phase-read (encoded c m) (c .exchange .phase) (shaped .phase) (phase-there m h c shaped),
+        content-back m h c shaped,
+        na2-back m h c shaped,
+        receiver-back m h c shaped,
       )
-
-  -- What encoding leaves as it was: address, key and count; TAB, kind, limits and marks of every record; octets past the layout; and while nothing
-  -- waits, the wait's ADP, TAB and length. The other free octets stand in the card's arrays, where a call
-  -- alters them only by giving them a meaning.
-  pub encoded-attributes : (i j : ℕ) → i < 32 → j < 5 → getD (encoded c m) (256 + 122 * i + j) 0 ≡ getD m (256 + 122 * i + j) 0
-  unfolding encoded
-  encoded-attributes i j k q =
-      contents-fixed each 256 station room fit i j (omega (arith, encodable .each)) q ∙ station-past c m h (encodable .shaped) (256 + 122 * i + j) (omega arith)
-
-  pub encoded-past : (j : ℕ) → size ≤ j → getD (encoded c m) j 0 ≡ getD m j 0
-  unfolding encoded
-  encoded-past j k = contents-past each 256 station room fit j (omega (arith, encodable .each)) ∙ station-past c m h (encodable .shaped) j (omega arith)
-
-  pub encoded-idle : c .phase ≡ Idle → (j : ℕ) → 15 < j → j < 19 → getD (encoded c m) j 0 ≡ getD m j 0
-  encoded-idle e j k l = low j (omega arith) ∙ station-idle c m h (encodable .shaped) e j k l
-
-  marks-again : (n : ℕ) → n ≤ 32 → marksFrom n 256 (encoded c m) ≡ marksFrom n 256 m
-  unfolding encoded
-  marks-again n k =
-      marks-kept each n 256 station (omega (arith, encodable .each)) room fit
-      ∙ marks-agree n 256 station m (λ j p. station-past c m h (encodable .shaped) j p)
-
-  -- the marks of the encoded card are in use where those of the records were
-  pub encoded-marks : marksInUse m ≡ true → marksInUse (encoded c m) ≡ true
-  unfolding marksInUse
-  encoded-marks e =
-      let first = and-eq-true-iff (leb (getD m 15 0) 1) (leb (getD m 127 0) 1 && marksFrom (min (getD m 14 0) 32) 256 m) .0 e .1 in
-      let own = and-eq-true-iff (leb (getD m 127 0) 1) (marksFrom (min (getD m 14 0) 32) 256 m) .0 first .1 in
-      rw (low 15 (omega arith), wait-mark c m h (encodable .shaped), low 127 (omega arith), receiver-mark c m h (encodable .shaped), encoded-front 14 (omega arith))
-      (marks-again (min (getD m 14 0) 32) (omega arith) ∙ own)

@@ -1,4 +1,6 @@
+pub mod Layout
 pub mod Decoding
 pub mod Encoding
-pub mod Marks
+pub mod Legibility
 pub mod Setup
+pub mod Leaving

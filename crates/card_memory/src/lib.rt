@@ -1,12 +1,13 @@
-// A card in lent memory: 4,160 octets at fixed offsets (docs/MEMORY.md).
-mod marks;
+// A card in lent memory, at fixed offsets (docs/MEMORY.md).
+pub mod layout;
+mod legibility;
 mod reading;
 mod setup;
 mod writing;
 
-pub use marks::marks_in_use;
+pub use legibility::legible;
 pub use reading::decode;
 pub use setup::entries;
-pub use setup::entry_marks_in_use;
+pub use setup::entry_kinds_known;
 pub use setup::set_up;
 pub use writing::encode;

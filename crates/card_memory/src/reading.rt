@@ -1,10 +1,35 @@
 // The card that a memory holds.
 ghost use mathlib.Core.Path.{_≡_};
 ghost use Prim.Native.Nat.{_≤_};
-ghost use lib.ListN.{getD, replicate};
+ghost use lib.ListN.{replicate};
 ghost use Rattle.octets.specs.Splice.{spliced};
-ghost use Rattle.card_memory.specs.Decoding.{kindFor, attributesIn, recordIn, recordsIn, phaseIn, decoded};
+ghost use Rattle.card_memory.specs.Layout.{recordsAt, storageSize, recordPlaces};
+ghost use Rattle.card_memory.specs.Decoding.{kindFor, attributesIn, recordIn, recordsIn, recordsOf, phaseIn, exchangeIn, identityIn, decoded};
+use crate::layout::ADDRESS_AT;
+use crate::layout::CHARACTER_LIMIT_AT;
+use crate::layout::COUNT_AT;
+use crate::layout::KEY_AT;
+use crate::layout::KIND_AT;
+use crate::layout::LENGTH_AT;
+use crate::layout::MARKS_AT;
+use crate::layout::NA2_AT;
+use crate::layout::OCTET_LIMIT_AT;
+use crate::layout::RECEIVER_AT;
+use crate::layout::RECORD_PLACES;
+use crate::layout::RECORD_SIZE;
+use crate::layout::RECORDS_AT;
+use crate::layout::SIZE;
+use crate::layout::STORAGE_AT;
+use crate::layout::STORAGE_SIZE;
+use crate::layout::TAB_AT;
+use crate::layout::WAIT_ADP_AT;
+use crate::layout::WAIT_DATA_AT;
+use crate::layout::WAIT_LENGTH_AT;
+use crate::layout::WAIT_MARK_AT;
+use crate::layout::WAIT_TAB_AT;
 use card::Card;
+use card::Exchange;
+use card::Identity;
 use card::Phase;
 use numbers::Characters;
 use numbers::Octets;
@@ -13,11 +38,11 @@ use records::Kind;
 use records::Record;
 use records::Records;
 
-// The octets of s in an array of 116, with zeros after them; zeros alone where there are more than 116.
-fn storage(s: &[u8]) -> [u8; 116]
-    ensures { λ r. ⌜ r ≡ spliced (replicate 116 0) 0 (now (s .entry)) ⌝ }
+// The octets of s in an array as long as a storage, with zeros after them; zeros alone where there are more.
+fn storage(s: &[u8]) -> [u8; STORAGE_SIZE]
+    ensures { λ r. ⌜ r ≡ spliced (replicate storageSize 0) 0 (now (s .entry)) ⌝ }
 {
-    let mut a = [0u8; 116];
+    let mut a = [0u8; STORAGE_SIZE];
     octets::put(&mut a, 0, s);
     a
 }
@@ -35,11 +60,14 @@ fn kind_for(kind: u8, limit: u8) -> Kind
 fn attributes_in(part: &[u8]) -> Attributes
     ensures { λ r. ⌜ r ≡ attributesIn (now (part .entry)) ⌝ }
 {
-    let kind = kind_for(octets::octet(part, 1), octets::octet(part, 3));
-    let limit = octets::octet(part, 2);
-    let marks = octets::octet(part, 4);
+    let kind = kind_for(
+        octets::octet(part, KIND_AT),
+        octets::octet(part, CHARACTER_LIMIT_AT),
+    );
+    let limit = octets::octet(part, OCTET_LIMIT_AT);
+    let marks = octets::octet(part, MARKS_AT);
     Attributes {
-        tab: octets::octet(part, 0),
+        tab: octets::octet(part, TAB_AT),
         kind: kind,
         limit: Octets(limit as usize),
         readable: marks % 2 == 1,
@@ -51,25 +79,25 @@ fn attributes_in(part: &[u8]) -> Attributes
 fn record_in(part: &[u8]) -> Record
     ensures { λ r. ⌜ r ≡ recordIn (now (part .entry)) ⌝ }
 {
-    let length = octets::octet(part, 5);
+    let length = octets::octet(part, LENGTH_AT);
     Record {
         attributes: attributes_in(part),
         length: Octets(length as usize),
-        storage: storage(octets::part(part, 6, 122)),
+        storage: storage(octets::part(part, STORAGE_AT, RECORD_SIZE)),
     }
 }
 
-// The 32 records from an offset on.
-pub(crate) fn records_in(memory: &[u8], start: usize) -> [Record; 32]
-    requires { ⌜ start ≤ 256 ⌝ }
-    ensures { λ r. ⌜ r ≡ recordsIn 32 start (now (memory .entry)) ⌝ }
+// The places of all records from an offset on.
+fn places_in(memory: &[u8], start: usize) -> [Record; RECORD_PLACES]
+    requires { ⌜ start ≤ recordsAt ⌝ }
+    ensures { λ r. ⌜ r ≡ recordsIn recordPlaces start (now (memory .entry)) ⌝ }
 {
-    let first = record_in(octets::part(memory, start, start + 122));
-    let mut each = [first; 32];
+    let first = record_in(octets::part(memory, start, start + RECORD_SIZE));
+    let mut each = [first; RECORD_PLACES];
     let mut at = start;
     let mut i = 0;
-    while i < 32 {
-        let next = at + 122;
+    while i < RECORD_PLACES {
+        let next = at + RECORD_SIZE;
         each[i] = record_in(octets::part(memory, at, next));
         at = next;
         i += 1;
@@ -77,13 +105,23 @@ pub(crate) fn records_in(memory: &[u8], start: usize) -> [Record; 32]
     each
 }
 
+pub(crate) fn records_in(count: u8, memory: &[u8], start: usize) -> Records
+    requires { ⌜ start ≤ recordsAt ⌝ }
+    ensures { λ r. ⌜ r ≡ recordsOf count start (now (memory .entry)) ⌝ }
+{
+    Records {
+        count: count as usize,
+        each: places_in(memory, start),
+    }
+}
+
 fn phase_in(memory: &[u8]) -> Phase
     ensures { λ r. ⌜ r ≡ phaseIn (now (memory .entry)) ⌝ }
 {
-    if octets::octet(memory, 15) == 1 {
-        let adp = octets::octet(memory, 16);
-        let tab = octets::octet(memory, 17);
-        let length = octets::octet(memory, 18);
+    if octets::octet(memory, WAIT_MARK_AT) == 1 {
+        let adp = octets::octet(memory, WAIT_ADP_AT);
+        let tab = octets::octet(memory, WAIT_TAB_AT);
+        let length = octets::octet(memory, WAIT_LENGTH_AT);
         return Phase::Waiting {
             adp: adp,
             tab: tab,
@@ -93,13 +131,22 @@ fn phase_in(memory: &[u8]) -> Phase
     Phase::Idle
 }
 
-fn all_records(memory: &[u8]) -> Records
-    ensures { λ r. ⌜ r ≡ record { count = getD (now (memory .entry)) 14 0; each = recordsIn 32 256 (now (memory .entry)) } ⌝ }
+fn exchange_in(memory: &[u8]) -> Exchange
+    ensures { λ r. ⌜ r ≡ exchangeIn (now (memory .entry)) ⌝ }
 {
-    let count = octets::octet(memory, 14);
-    Records {
-        count: count as usize,
-        each: records_in(memory, 256),
+    Exchange {
+        phase: phase_in(memory),
+        content: octets::hundred(octets::part(memory, WAIT_DATA_AT, NA2_AT)),
+        na2: octets::eight(octets::part(memory, NA2_AT, COUNT_AT)),
+    }
+}
+
+fn identity_in(memory: &[u8]) -> Identity
+    ensures { λ r. ⌜ r ≡ identityIn (now (memory .entry)) ⌝ }
+{
+    Identity {
+        address: octets::six(octets::part(memory, ADDRESS_AT, KEY_AT)),
+        key: octets::eight(octets::part(memory, KEY_AT, WAIT_MARK_AT)),
     }
 }
 
@@ -107,18 +154,11 @@ fn all_records(memory: &[u8]) -> Records
 pub fn decode(memory: &[u8]) -> Card
     ensures { λ r. ⌜ r ≡ decoded (now (memory .entry)) ⌝ }
 {
-    let address = octets::six(octets::part(memory, 0, 6));
-    let key = octets::eight(octets::part(memory, 6, 14));
-    let data = octets::hundred(octets::part(memory, 19, 119));
-    let na2 = octets::eight(octets::part(memory, 119, 127));
-    let receiver = receiver_memory::decode(octets::part(memory, 127, 256));
+    let receiver = receiver_memory::decode(octets::part(memory, RECEIVER_AT, SIZE));
     Card {
-        address: address,
-        key: key,
-        records: all_records(memory),
-        phase: phase_in(memory),
-        waiting: data,
-        na2: na2,
+        identity: identity_in(memory),
+        records: records_in(octets::octet(memory, COUNT_AT), memory, RECORDS_AT),
+        exchange: exchange_in(memory),
         receiver: receiver,
     }
 }

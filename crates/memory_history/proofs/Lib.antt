@@ -1,5 +1,8 @@
 mod Calls
-mod FreshMemory
-mod Start
+mod Lending
+mod Decoding
 pub mod History
 pub mod Reading
+pub mod Written
+mod Replayed
+pub mod RoundTrip

@@ -1,58 +1,61 @@
 -- Histories of exported calls over lent card memory (00, demand 3; 01, The card: "program is written in C").
-use Prim.Native.Nat.{ℕ, _≤_, _<_}
+use Prim.Native.Nat.{ℕ, _<_}
 use mathlib.Core.Path.{_≡_}
-use mathlib.Core.Bool.{true}
-use mathlib.Core.List.{List, [], _∷_, map}
-use mathlib.Core.Logic.{_⊎_}
-use lib.ListN.{length, getD}
-use Rattle.card.specs.Events as card
+use mathlib.Core.Bool.{true, cond}
+use mathlib.Core.List.{List, [], _∷_, _++_}
+use lib.Dec.{leb}
+use lib.ListN.{length, take, drop, getD}
+use Rattle.numbers.specs.Table.{none, brokenRule}
 use Rattle.card.specs.Events.{Call}
 use Rattle.history.specs.Book.{bookOf}
 use Rattle.history.specs.Claim.{Kept}
+use Rattle.card_memory.specs.Layout.{recordsSize, size}
 use Rattle.card_memory.specs.Decoding.{decoded}
 use Rattle.card_memory.specs.Setup.{entryRecords}
-use Rattle.card_exports.specs.Outcome.{Outcome, soundMemory, gapOutcome, sessionEndOutcome, meterWriteOutcome, octetOutcome}
+use Rattle.card_exports.specs.Outcome.{Outcome, soundMemory, callOutcome}
 use Rattle.card_exports.specs.Setup.{setupOutcome}
+use Rattle.card_exports.specs.Leaving.{StaysAt}
 
--- a call with its arguments: an octet with NA2 and the reply buffer lent, a gap, a session end, a meter write with TAB and data
-pub data MemoryCall : Type 0 where
-  Octet : ℕ → List ℕ → List ℕ → MemoryCall
-  Gap : MemoryCall
-  SessionEnd : MemoryCall
-  MeterWrite : ℕ → List ℕ → MemoryCall
+-- a call with its arguments, and how many octets of the memory are lent to it, from its front on; all of them where there are fewer
+pub record MemoryCall : Type 0 where
+  pub room : ℕ
+  pub call : Call
 
--- the same call on a card by value; of the reply buffer only the length bears on it
-abbrev pub callOf : MemoryCall → Call
-callOf (Octet o na2 reply) = card.Octet o na2 (length reply)
-callOf Gap = card.Gap
-callOf SessionEnd = card.SessionEnd
-callOf (MeterWrite t d) = card.MeterWrite t d
-
--- the number of an exported call, and the memory that it leaves
-unfoldable pub outcome : List ℕ → MemoryCall → Outcome
-outcome m (Octet o na2 reply) = record { number = octetOutcome m o na2 reply .number; memory = octetOutcome m o na2 reply .memory }
-outcome m Gap = gapOutcome m
-outcome m SessionEnd = sessionEndOutcome m
-outcome m (MeterWrite t d) = meterWriteOutcome m t d
+-- the number of an exported call, and the memory that it leaves: what is not lent stays
+unfoldable pub lentOutcome : List ℕ → MemoryCall → Outcome
+lentOutcome m k =
+    record {
+      number = callOutcome (take (k .room) m) (k .call) .number;
+      memory = callOutcome (take (k .room) m) (k .call) .memory ++ drop (k .room) m;
+    }
 
 -- "Each call gets the card that the last one gave back or left; nobody else writes it meanwhile." (00)
 unfoldable pub run : List ℕ → List MemoryCall → List ℕ
 run m [] = m
-run m (k ∷ h) = run (outcome m k .memory) h
+run m (k ∷ h) = run (lentOutcome m k .memory) h
 
--- a memory that setup accepted, and its arguments
+-- "Refused with 17: no step" (01, the book): a call that lends less memory than a card has is none; what else 17 refuses the book reads from the call
+unfoldable pub made : List MemoryCall → List Call
+made [] = []
+made (k ∷ h) = cond (leb size (k .room)) (k .call ∷ made h) (made h)
+
+-- what setup was given, where it accepts it over a memory of octets; the entries have the length that their type says
 pub record Accepted (before address key : List ℕ) (count : ℕ) (entries : List ℕ) : Type 0 where
-  pub entered : length entries ≡ 3904
-  pub number : setupOutcome before address key count entries .number ≡ 0
-  pub octets : (i : ℕ) → getD (setupOutcome before address key count entries .memory) i 0 < 256
+  pub number : setupOutcome before address key count entries .number ≡ none
+  pub entered : length entries ≡ recordsSize
+  pub octets : (i : ℕ) → getD before i 0 < 256
 
--- What holds after every history: each record that setup gave has the book's length and octets, in the memory as its layout says; the memory is
--- as long as it was and sound, so that no next call, reading a record included, is refused with 12.
--- A refusal "may still change the receiver and the mark of the wait .., and nothing else" (01, Numbers handed back): the octets from 127 to 255, and that at 15.
-pub record KeptInMemory (before address key : List ℕ) (count : ℕ) (entries : List ℕ) (h : List MemoryCall) : Type 0 where
-  pub kept : Kept (entryRecords count entries) (decoded (run (setupOutcome before address key count entries .memory) h)) (bookOf address key (entryRecords count entries) (map callOf h))
-  pub long : length (run (setupOutcome before address key count entries .memory) h) ≡ length before
-  pub sound : soundMemory (run (setupOutcome before address key count entries .memory) h) ≡ true
-  pub leaves : (k : MemoryCall) → (outcome (run (setupOutcome before address key count entries .memory) h) k .number ≡ 0 → ⊥) → (j : ℕ) → (j ≡ 15 → ⊥) → (j < 127) ⊎ (256 ≤ j)
-      → getD (outcome (run (setupOutcome before address key count entries .memory) h) k .memory) j 0 ≡ getD (run (setupOutcome before address key count entries .memory) h) j 0
-  pub unbroken : (k : MemoryCall) → outcome (run (setupOutcome before address key count entries .memory) h) k .number ≡ 12 → ⊥
+-- What holds of the memory after every history. Each record that setup gave has the book's length and octets, in the memory as its layout says. The memory is
+-- as long as it was and sound, so that no next call is refused with 12. And a next call that is refused leaves what its number says.
+pub record KeptInMemory (before address key : List ℕ) (count : ℕ) (entries : List ℕ) (h : List MemoryCall) (m : List ℕ) : Type 0 where
+  pub kept : Kept (entryRecords count entries) (decoded m) (bookOf address key (entryRecords count entries) (made h))
+  pub long : length m ≡ length before
+  pub sound : soundMemory m ≡ true
+  pub unbroken : (k : MemoryCall) → lentOutcome m k .number ≡ brokenRule → ⊥
+  pub leaves : (k : MemoryCall) → (lentOutcome m k .number ≡ none → ⊥) → (j : ℕ) → StaysAt (k .call) (lentOutcome m k .number) j → getD (lentOutcome m k .memory) j 0 ≡ getD m j 0
+
+-- What setup and then a history give: setup's number, the memory after the history, and the claim where setup accepts.
+pub record Replayed (before address key : List ℕ) (count : ℕ) (entries : List ℕ) (h : List MemoryCall) (number : ℕ) (after : List ℕ) : Type 0 where
+  pub told : number ≡ setupOutcome before address key count entries .number
+  pub memory : after ≡ run (setupOutcome before address key count entries .memory) h
+  pub kept : number ≡ none → KeptInMemory before address key count entries h after

@@ -6,10 +6,10 @@ use mathlib.Core.List.{List}
 use native.Mathlib.Nat.{min-eq-left}
 use native.Mathlib.Omega.{arith}
 use lib.Dec.{eqb}
-use lib.ListN.{length, replicate, length-replicate}
+use lib.ListN.{length, getD, replicate, length-replicate}
 use Rattle.octets.specs.Part.{partOf}
 use Rattle.octets.proofs.Splice.{spliced-whole}
-use Rattle.octets.proofs.Parts.{length-part}
+use Rattle.octets.proofs.Parts.{length-part, getD-part}
 use Rattle.octets.proofs.Impossible.{impossible}
 use Rattle.receiver_memory.specs.Fields.{markOf, narrowed, fieldAt}
 
@@ -21,6 +21,9 @@ field-part n m at h =
 
 pub length-field : (n : ℕ) (m : List ℕ) (at : ℕ) → at + n ≤ length m → length (fieldAt n m at) ≡ n
 length-field n m at h = rw (field-part n m at h) (length-part m at (at + n) (omega arith) h ∙ omega arith)
+
+pub getD-field : (n : ℕ) (m : List ℕ) (at : ℕ) → at + n ≤ length m → (k : ℕ) → k < n → getD (fieldAt n m at) k 0 ≡ getD m (at + k) 0
+getD-field n m at h k lt = rw (field-part n m at h) (getD-part m at (at + n) k h (omega arith))
 
 pub mark-back : (b : Bool) → eqb (markOf b) 1 ≡ b
 mark-back true = refl

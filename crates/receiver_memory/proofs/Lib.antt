@@ -1,3 +1,4 @@
 pub mod Images
 pub mod Fields
+pub mod Puts
 pub mod Receiver

@@ -5,7 +5,7 @@ use lib.ListN.{replicate}
 use Rattle.receiver.proofs.Lengths.{octets-length}
 use Rattle.receiver_memory.specs.Fields.{markOf, narrowed}
 use Rattle.receiver_memory.proofs.Images.{after-front}
-use Rattle.receiver_memory.specs.Receiver.{image}
+use Rattle.receiver_memory.specs.Receiver.{mostHeld, image}
 use borrow.Author.Needs.{needs}
 use Rattle.receiver_memory.proofs.encode.Statement.{statement}
 use Rattle.receiver_memory.proofs.encode.Tie as tie
@@ -49,7 +49,7 @@ returns c =
     let s = c .before .before .before .before .before .before .before .before .before .before .before .before .before .before in
     let r = s .args .receiver in
     let long = octets-length r _ (s .good .1 .1 .0) in
-    rw (q .put2 .ensures, p .put .ensures, w .before .narrowed .ensures, w .before .before .mark-of .ensures, after-front (markOf (r .skipping) ∷ narrowed (r .count .0) ∷ []) (replicate 127 0) (r .octets) (sym long))
+    rw (q .put2 .ensures, p .put .ensures, w .before .narrowed .ensures, w .before .before .mark-of .ensures, after-front (markOf (r .skipping) ∷ narrowed (r .count .0) ∷ []) (replicate mostHeld 0) (r .octets) (sym long))
 
 pub encode-spec : {M : Type 1} → statement M
 encode-spec =

@@ -1,48 +1,49 @@
 -- Reading by TAB: 17, 12, 10, or the record's contents.
-use Prim.Native.Nat.{_<_}
+use Prim.Native.Nat.{ℕ, _<_}
 use mathlib.Core.Path.{_≡_, sym, ap, _∙_}
 use mathlib.Core.Bool.{true}
 use denote.Ref.{now}
 use borrow.Author.Tests.{lt-leb, le-leb, not-true, not-false}
-use Rattle.records.specs.declared.Found.{Found}
+use Rattle.numbers.specs.Answer.{Answer}
+use Rattle.records.specs.Numbers.{answerOfFound}
 use Rattle.records.specs.Finding.{attributesOf, find}
 use Rattle.card.specs.declared.Card.{Card}
 use Rattle.card.specs.Soundness.{sound}
 use Rattle.card_memory.specs.Decoding.{decoded}
 use Rattle.card_exports.specs.Outcome.{soundMemory}
 use Rattle.card_exports.specs.Observing.{shownFor, readOutcome}
-use Rattle.card_exports.proofs.Calls.{unmarked, marked}
+use Rattle.card_exports.proofs.Calls.{illegible-unsound, legible-sound}
 use Rattle.card_exports.proofs.Finding.{found-inside}
 use native.Mathlib.Omega.{arith}
 use borrow.Author.Needs.{needs}
 use Rattle.card_exports.proofs.observing.propolisk_card_read.Statement.{statement}
 use Rattle.card_exports.proofs.observing.propolisk_card_read.Tie as tie
 
-found-there : (c : tie.After-find) (f : Found) → c .find .result ≡ f → find (attributesOf (decoded (now (c .before .before .before .before .before .before .before .before .before .args .memory)) .records)) (c .before .before .before .before .before .before .before .before .before .args .tab) ≡ f
+found-there : (c : tie.After-find) (f : Answer ℕ) → answerOfFound (c .find .result) ≡ f → find (attributesOf (decoded (now (c .before .before .before .before .before .before .before .before .before .args .memory)) .records)) (c .before .before .before .before .before .before .before .before .before .args .tab) ≡ f
 found-there c f e = ap (λ (k : Card). find (attributesOf (k .records)) (c .before .before .before .before .before .before .before .before .before .args .tab)) (sym (c .before .before .before .before .decode .ensures)) ∙ sym (c .find .ensures) ∙ e
 
 sound-there : (c : tie.Else3) → soundMemory (now (c .before .before .before .before .before .before .before .args .memory)) ≡ true
 sound-there c =
     let d = c .before .before in
-    marked _ (sym (d .before .before .marks-in-use .ensures) ∙ not-false _ (d .before .if2 .left))
+    legible-sound _ (sym (d .before .before .legible .ensures) ∙ not-false _ (d .before .if2 .left))
     ∙ ap sound (sym (d .decode .ensures)) ∙ sym (c .before .sound .ensures) ∙ not-false _ (c .if3 .left)
 
 inside : (c : tie.After-known-told2) → c .before .found2 .given .0 .0 < 32
 inside c =
     let g = c .before .before .before in
-    found-inside _ (g .before .before .before .before .before .before .before .if1 .left) _ _ (found-there g _ (c .before .found2 .given .1))
+    found-inside _ (g .before .before .before .before .before .before .before .if1 .left) _ _ (found-there g _ (ap answerOfFound (c .before .found2 .given .1)))
 
 returns : tie.Need-returns
 unfolding readOutcome
 returns c = rw (lt-leb _ _ (c .if1 .taken))
 
-marks-in-use-requires : tie.Need-marks-in-use-requires
-marks-in-use-requires c κs = search needs
+legible-requires : tie.Need-legible-requires
+legible-requires c κs = search needs
 
 returns-2 : tie.Need-returns-2
 unfolding readOutcome
 returns-2 c =
-    rw (le-leb _ _ (c .before .before .if1 .left), unmarked _ (sym (c .before .marks-in-use .ensures) ∙ not-true _ (c .if2 .taken)))
+    rw (le-leb _ _ (c .before .before .if1 .left), illegible-unsound _ (sym (c .before .legible .ensures) ∙ not-true _ (c .if2 .taken)))
 
 decode-requires : tie.Need-decode-requires
 decode-requires c κs = search needs
@@ -56,7 +57,7 @@ returns-3 c =
     let d = c .before .before in
     rw (
       le-leb _ _ (d .before .before .before .if1 .left),
-      marked _ (sym (d .before .before .marks-in-use .ensures) ∙ not-false _ (d .before .if2 .left)),
+      legible-sound _ (sym (d .before .before .legible .ensures) ∙ not-false _ (d .before .if2 .left)),
       ap sound (sym (d .decode .ensures)) ∙ sym (c .before .sound .ensures) ∙ not-true _ (c .if3 .taken),
     )
 
@@ -88,7 +89,7 @@ returns-4 c =
     rw (
       le-leb _ _ (g .before .before .before .before .before .before .before .if1 .left),
       sound-there (g .before .before),
-      found-there g _ (c .before .before .found .given .1),
+      found-there g _ (ap answerOfFound (c .before .before .found .given .1)),
       c .number .ensures,
     )
 
@@ -99,7 +100,7 @@ returns-5 c =
     rw (
       le-leb _ _ (g .before .before .before .before .before .before .before .if1 .left),
       sound-there (g .before .before),
-      found-there g _ (c .before .before .before .before .found2 .given .1),
+      found-there g _ (ap answerOfFound (c .before .before .before .before .found2 .given .1)),
       c .show .ensures .0,
       c .show .ensures .1,
       ← g .before .before .before .before .decode .ensures,
@@ -110,7 +111,7 @@ propolisk-card-read-spec =
     tie.close
     (tie.spec
     returns
-    marks-in-use-requires
+    legible-requires
     returns-2
     decode-requires
     sound-requires

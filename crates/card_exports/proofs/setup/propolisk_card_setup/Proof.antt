@@ -1,8 +1,9 @@
--- Setup: 17 for the memory, then the number of setup by value with marks not in use counted; only 0 writes.
-use mathlib.Core.Path.{_≡_, _∙_}
+-- Setup: 17 for the memory, then the number of setup by value with kinds that are none counted; only 0 writes.
+use Prim.Native.Nat.{ℕ}
+use mathlib.Core.Path.{_≡_, ap, _∙_}
 use denote.Ref.{now}
 use borrow.Author.Tests.{lt-leb, le-leb, ne-eqb}
-use Rattle.card_exports.specs.Setup.{setupNumber, setupOutcome}
+use Rattle.card_exports.specs.Setup.{judged, setupNumber, setupOutcome}
 use Rattle.card_exports.proofs.Judging.{setup-judged}
 use borrow.Author.Needs.{needs}
 use Rattle.card_exports.proofs.setup.propolisk_card_setup.Statement.{statement}
@@ -12,7 +13,8 @@ judged-number : (c : tie.After-judge) → c .judge .result ≡ setupNumber (now 
 judged-number c =
     let s = c .before .before in
     c .judge .ensures
-    ∙ rw (c .before .entry-marks-in-use .ensures, s .setup .ensures, s .before .entries .ensures) (setup-judged _ _ _ _)
+    ∙ ap (λ (n : ℕ). judged n (c .before .entry-kinds-known .result)) (s .setup .ensures .number)
+    ∙ rw (c .before .entry-kinds-known .ensures, s .before .entries .ensures) (setup-judged _ _ _ _)
 
 returns : tie.Need-returns
 unfolding setupOutcome
@@ -24,8 +26,8 @@ entries-requires c κs = search needs
 setup-requires : tie.Need-setup-requires
 setup-requires c κs = search needs
 
-entry-marks-in-use-requires : tie.Need-entry-marks-in-use-requires
-entry-marks-in-use-requires c κs = search needs
+entry-kinds-known-requires : tie.Need-entry-kinds-known-requires
+entry-kinds-known-requires c κs = search needs
 
 judge-requires : tie.Need-judge-requires
 judge-requires c κs = search needs
@@ -56,7 +58,7 @@ propolisk-card-setup-spec =
     returns
     entries-requires
     setup-requires
-    entry-marks-in-use-requires
+    entry-kinds-known-requires
     judge-requires
     set-up-requires
     same-length

@@ -1,29 +1,25 @@
--- The call on whole memory with marks in use is the method by value between decoding and encoding.
-use denote.Ref.{now}
-use mathlib.Core.Path.{sym, ap, _∙_}
+-- The call on whole, legible memory is the method by value between decoding and encoding.
+use mathlib.Core.Path.{refl, sym, ap, _∙_}
 use borrow.Author.Tests.{not-true, not-false}
-use Rattle.card.specs.declared.Answered.{Answered}
-use Rattle.card.specs.Events.{afterGap}
-use Rattle.card_exports.specs.Outcome.{finished, gapOutcome}
-use Rattle.card_exports.proofs.Calls.{too-short, out-of-use, gap-finished}
+use Rattle.card.specs.declared.Card.{Card}
+use Rattle.card.specs.Events.{Gap, after}
+use Rattle.card_exports.proofs.Calls.{too-short, illegible-called, call-finished}
 use borrow.Author.Needs.{needs}
 use Rattle.card_exports.proofs.stepping.propolisk_card_step_gap.Statement.{statement}
 use Rattle.card_exports.proofs.stepping.propolisk_card_step_gap.Tie as tie
 
 returns : tie.Need-returns
-unfolding gapOutcome
-returns c = sym (too-short _ (c .if1 .taken) _)
+returns c = sym (too-short _ (c .if1 .taken) Gap)
 
-marks-in-use-requires : tie.Need-marks-in-use-requires
-marks-in-use-requires c κs = search needs
+legible-requires : tie.Need-legible-requires
+legible-requires c κs = search needs
 
 same-length : tie.Need-same-length
 same-length c = search needs
 
 returns-2 : tie.Need-returns-2
-unfolding gapOutcome
 returns-2 c =
-    sym (out-of-use _ (c .before .before .before .if1 .left) (sym (c .before .marks-in-use .ensures) ∙ not-true _ (c .if2 .taken)) _)
+    sym (illegible-called _ (c .before .before .before .if1 .left) Gap refl (sym (c .before .legible .ensures) ∙ not-true _ (c .if2 .taken)))
 
 decode-requires : tie.Need-decode-requires
 decode-requires c κs = search needs
@@ -38,23 +34,22 @@ same-length-2 : tie.Need-same-length-2
 same-length-2 c = search needs
 
 returns-3 : tie.Need-returns-3
-unfolding gapOutcome
+unfolding after
 returns-3 c =
     let f = c .before .before in
     let d = f .before .before .before in
     let t = d .before .before in
-    let a = t .before .before .before .before .before .args in
-    let m = now (a .memory) in
+    let told = f .before .gap .ensures in
     f .finish .ensures
-    ∙ ap (λ (x : Answered). finished m x) (f .before .gap .ensures ∙ ap afterGap (d .decode .ensures))
-    ∙ gap-finished _ (t .before .before .before .if1 .left) (sym (t .before .marks-in-use .ensures) ∙ not-false _ (t .if2 .left))
+    ∙ call-finished _ (t .before .before .before .if1 .left) Gap refl (sym (t .before .legible .ensures) ∙ not-false _ (t .if2 .left)) _ _
+    (told .number ∙ ap (λ (k : Card). after k Gap .number) (d .decode .ensures)) (told .card ∙ ap (λ (k : Card). after k Gap .card) (d .decode .ensures))
 
 pub propolisk-card-step-gap-spec : {M : Type 1} → statement M
 propolisk-card-step-gap-spec =
     tie.close
     (tie.spec
     returns
-    marks-in-use-requires
+    legible-requires
     same-length
     returns-2
     decode-requires

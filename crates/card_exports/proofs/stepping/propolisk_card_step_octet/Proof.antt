@@ -2,8 +2,8 @@
 use mathlib.Core.Path.{sym, _∙_}
 use borrow.Author.Tests.{not-true, not-false}
 use Rattle.card_exports.specs.Outcome.{octetOutcome}
-use Rattle.card_exports.proofs.Calls.{unmarked}
-use Rattle.card_exports.proofs.OctetCall.{octet-replied}
+use Rattle.card_exports.proofs.Calls.{illegible-unsound}
+use Rattle.card_exports.proofs.OctetCall.{octet-broken, octet-replied}
 use borrow.Author.Needs.{needs}
 use Rattle.card_exports.proofs.stepping.propolisk_card_step_octet.Statement.{statement}
 use Rattle.card_exports.proofs.stepping.propolisk_card_step_octet.Tie as tie
@@ -15,8 +15,8 @@ returns : tie.Need-returns
 unfolding octetOutcome
 returns c = rw (sym (c .before .lengths-fit .ensures) ∙ not-true _ (c .if1 .taken))
 
-marks-in-use-requires : tie.Need-marks-in-use-requires
-marks-in-use-requires c κs = search needs
+legible-requires : tie.Need-legible-requires
+legible-requires c κs = search needs
 
 same-length : tie.Need-same-length
 same-length c = search needs
@@ -25,7 +25,7 @@ returns-2 : tie.Need-returns-2
 unfolding octetOutcome
 returns-2 c =
     let t = c .before .before .before in
-    rw (sym (t .before .lengths-fit .ensures) ∙ not-false _ (t .if1 .left), unmarked _ (sym (c .before .marks-in-use .ensures) ∙ not-true _ (c .if2 .taken)))
+    rw (sym (t .before .lengths-fit .ensures) ∙ not-false _ (t .if1 .left), illegible-unsound _ (sym (c .before .legible .ensures) ∙ not-true _ (c .if2 .taken)))
 
 decode-requires : tie.Need-decode-requires
 decode-requires c κs = search needs
@@ -44,13 +44,29 @@ same-length-3 c = search needs
 
 returns-3 : tie.Need-returns-3
 returns-3 c =
-    let f = c .before .before in
+    let f = c .before .before .before in
     let s = f .before .before .before .before .before .before in
     let d = s .before .before in
     let t = d .before .before in
     let l = t .before .before .before in
-    octet-replied _ _ _ _ (sym (l .before .lengths-fit .ensures) ∙ not-false _ (l .if1 .left)) (sym (t .before .marks-in-use .ensures) ∙ not-false _ (t .if2 .left))
-    _ (s .octet .result) (rw (← d .decode .ensures) (s .octet .ensures)) _ _ (f .finish .ensures)
+    octet-broken _ _ _ _ (sym (l .before .lengths-fit .ensures) ∙ not-false _ (l .if1 .left)) (sym (t .before .legible .ensures) ∙ not-false _ (t .if2 .left))
+    _ (s .octet .result) (rw (← d .decode .ensures) (s .octet .ensures)) _ _ (f .finish .ensures) _ (c .if3 .taken)
+
+same-length-4 : tie.Need-same-length-4
+same-length-4 c = search needs
+
+same-length-5 : tie.Need-same-length-5
+same-length-5 c = search needs
+
+returns-4 : tie.Need-returns-4
+returns-4 c =
+    let f = c .before .before .before in
+    let s = f .before .before .before .before .before .before in
+    let d = s .before .before in
+    let t = d .before .before in
+    let l = t .before .before .before in
+    octet-replied _ _ _ _ (sym (l .before .lengths-fit .ensures) ∙ not-false _ (l .if1 .left)) (sym (t .before .legible .ensures) ∙ not-false _ (t .if2 .left))
+    _ (s .octet .result) (rw (← d .decode .ensures) (s .octet .ensures)) _ _ (f .finish .ensures) _ (c .if3 .left)
 
 pub propolisk-card-step-octet-spec : {M : Type 1} → statement M
 propolisk-card-step-octet-spec =
@@ -58,7 +74,7 @@ propolisk-card-step-octet-spec =
     (tie.spec
     lengths-fit-requires
     returns
-    marks-in-use-requires
+    legible-requires
     same-length
     returns-2
     decode-requires
@@ -66,4 +82,7 @@ propolisk-card-step-octet-spec =
     finish-requires
     same-length-2
     same-length-3
-    returns-3)
+    returns-3
+    same-length-4
+    same-length-5
+    returns-4)

@@ -1,31 +1,25 @@
--- The call on whole memory with marks in use is the method by value between decoding and encoding.
-use denote.Ref.{now}
-use mathlib.Core.Path.{sym, ap, _∙_}
+-- The call on whole, legible memory is the method by value between decoding and encoding.
+use mathlib.Core.Path.{refl, sym, ap, _∙_}
 use borrow.Author.Tests.{not-true, not-false}
-use Rattle.card.specs.declared.Answered.{Answered}
-use Rattle.card.specs.Events.{afterSessionEnd}
-use Rattle.card_exports.specs.Outcome.{finished, sessionEndOutcome}
-use Rattle.card_exports.proofs.Calls.{too-short, out-of-use, session-end-finished}
+use Rattle.card.specs.declared.Card.{Card}
+use Rattle.card.specs.Events.{SessionEnd, after}
+use Rattle.card_exports.proofs.Calls.{too-short, illegible-called, call-finished}
 use borrow.Author.Needs.{needs}
-use Rattle.card_exports.proofs.stepping.propolisk_card_step_session_end.Statement.{
-  statement,
-}
+use Rattle.card_exports.proofs.stepping.propolisk_card_step_session_end.Statement.{statement}
 use Rattle.card_exports.proofs.stepping.propolisk_card_step_session_end.Tie as tie
 
 returns : tie.Need-returns
-unfolding sessionEndOutcome
-returns c = sym (too-short _ (c .if1 .taken) _)
+returns c = sym (too-short _ (c .if1 .taken) SessionEnd)
 
-marks-in-use-requires : tie.Need-marks-in-use-requires
-marks-in-use-requires c κs = search needs
+legible-requires : tie.Need-legible-requires
+legible-requires c κs = search needs
 
 same-length : tie.Need-same-length
 same-length c = search needs
 
 returns-2 : tie.Need-returns-2
-unfolding sessionEndOutcome
 returns-2 c =
-    sym (out-of-use _ (c .before .before .before .if1 .left) (sym (c .before .marks-in-use .ensures) ∙ not-true _ (c .if2 .taken)) _)
+    sym (illegible-called _ (c .before .before .before .if1 .left) SessionEnd refl (sym (c .before .legible .ensures) ∙ not-true _ (c .if2 .taken)))
 
 decode-requires : tie.Need-decode-requires
 decode-requires c κs = search needs
@@ -40,23 +34,22 @@ same-length-2 : tie.Need-same-length-2
 same-length-2 c = search needs
 
 returns-3 : tie.Need-returns-3
-unfolding sessionEndOutcome
+unfolding after
 returns-3 c =
     let f = c .before .before in
     let d = f .before .before .before in
     let t = d .before .before in
-    let a = t .before .before .before .before .before .args in
-    let m = now (a .memory) in
+    let told = f .before .session-end .ensures in
     f .finish .ensures
-    ∙ ap (λ (x : Answered). finished m x) (f .before .session-end .ensures ∙ ap afterSessionEnd (d .decode .ensures))
-    ∙ session-end-finished _ (t .before .before .before .if1 .left) (sym (t .before .marks-in-use .ensures) ∙ not-false _ (t .if2 .left))
+    ∙ call-finished _ (t .before .before .before .if1 .left) SessionEnd refl (sym (t .before .legible .ensures) ∙ not-false _ (t .if2 .left)) _ _
+    (told .number ∙ ap (λ (k : Card). after k SessionEnd .number) (d .decode .ensures)) (told .card ∙ ap (λ (k : Card). after k SessionEnd .card) (d .decode .ensures))
 
 pub propolisk-card-step-session-end-spec : {M : Type 1} → statement M
 propolisk-card-step-session-end-spec =
     tie.close
     (tie.spec
     returns
-    marks-in-use-requires
+    legible-requires
     same-length
     returns-2
     decode-requires

@@ -1,5 +1,4 @@
 -- `decode` reads each field at its place.
-use Rattle.receiver_memory.specs.Fields.{fieldAt}
 use Rattle.card_memory.specs.Decoding.{decoded}
 use borrow.Author.Needs.{needs}
 use Rattle.card_memory.proofs.reading.decode.Statement.{statement}
@@ -8,58 +7,33 @@ use Rattle.card_memory.proofs.reading.decode.Tie as tie
 part-requires : tie.Need-part-requires
 part-requires c κs = search needs
 
-six-requires : tie.Need-six-requires
-six-requires c κs = search needs
-
-part-requires-2 : tie.Need-part-requires-2
-part-requires-2 c κs = search needs
-
-eight-requires : tie.Need-eight-requires
-eight-requires c κs = search needs
-
-part-requires-3 : tie.Need-part-requires-3
-part-requires-3 c κs = search needs
-
-hundred-requires : tie.Need-hundred-requires
-hundred-requires c κs = search needs
-
-part-requires-4 : tie.Need-part-requires-4
-part-requires-4 c κs = search needs
-
-eight-requires-2 : tie.Need-eight-requires-2
-eight-requires-2 c κs = search needs
-
-part-requires-5 : tie.Need-part-requires-5
-part-requires-5 c κs = search needs
-
 decode-requires : tie.Need-decode-requires
 decode-requires c κs = search needs
 
-all-records-requires : tie.Need-all-records-requires
-all-records-requires c κs = search needs
+identity-in-requires : tie.Need-identity-in-requires
+identity-in-requires c κs = search needs
 
-phase-in-requires : tie.Need-phase-in-requires
-phase-in-requires c κs = search needs
+octet-requires : tie.Need-octet-requires
+octet-requires c κs = search needs
+
+records-in-requires : tie.Need-records-in-requires
+records-in-requires c κs = search needs
+
+exchange-in-requires : tie.Need-exchange-in-requires
+exchange-in-requires c κs = search needs
 
 returns : tie.Need-returns
-unfolding decoded fieldAt
+unfolding decoded
 returns c =
-    let d = c .before .before in
-    let w = d .before .before .before .before in
-    let k = w .before .before in
+    let r = c .before in
+    let i = r .before .before in
     rw (
-      c .phase-in .ensures,
-      c .before .all-records .ensures,
-      d .decode .ensures,
-      d .before .part5 .ensures,
-      d .before .before .eight2 .ensures,
-      d .before .before .before .part4 .ensures,
-      w .hundred .ensures,
-      w .before .part3 .ensures,
-      k .eight .ensures,
-      k .before .part2 .ensures,
-      k .before .before .six .ensures,
-      k .before .before .before .part .ensures,
+      c .exchange-in .ensures,
+      r .records-in .ensures,
+      r .before .octet .ensures,
+      i .identity-in .ensures,
+      i .before .decode .ensures,
+      i .before .before .part .ensures,
     )
 
 pub decode-spec : {M : Type 1} → statement M
@@ -67,15 +41,9 @@ decode-spec =
     tie.close
     (tie.spec
     part-requires
-    six-requires
-    part-requires-2
-    eight-requires
-    part-requires-3
-    hundred-requires
-    part-requires-4
-    eight-requires-2
-    part-requires-5
     decode-requires
-    all-records-requires
-    phase-in-requires
+    identity-in-requires
+    octet-requires
+    records-in-requires
+    exchange-in-requires
     returns)

@@ -1,5 +1,6 @@
 -- `set_up` puts the fields one after the other.
 use Rattle.card_memory.specs.Setup.{setUp}
+use Rattle.receiver_memory.specs.Puts.{putAll}
 use borrow.Author.Needs.{needs}
 use Rattle.card_memory.proofs.setup.set_up.Statement.{statement}
 use Rattle.card_memory.proofs.setup.set_up.Tie as tie
@@ -31,18 +32,25 @@ part-requires c κs = search needs
 put-requires-5 : tie.Need-put-requires-5
 put-requires-5 c κs = search needs
 
+slice-aggregate-put-3 : tie.Need-slice-aggregate-put-3
+slice-aggregate-put-3 c = search needs
+
+put-requires-6 : tie.Need-put-requires-6
+put-requires-6 c κs = search needs
+
 same-length : tie.Need-same-length
 same-length c = search needs
 
 returns : tie.Need-returns
-unfolding setUp
+unfolding setUp putAll
 returns c =
-    let p5 = c .before .before in
+    let p6 = c .before .before in
+    let p5 = p6 .before .before .before .before .before in
     let p4 = p5 .before .before .before .before .before .before in
     let p3 = p4 .before .before .before .before .before in
     let p2 = p3 .before .before .before .before .before in
     let p1 = p2 .before .before .before .before in
-    rw (p5 .put5 .ensures, p5 .before .part .ensures, p4 .put4 .ensures, p3 .put3 .ensures, p2 .put2 .ensures, p1 .put .ensures)
+    rw (p6 .put6 .ensures, p5 .put5 .ensures, p5 .before .part .ensures, p4 .put4 .ensures, p3 .put3 .ensures, p2 .put2 .ensures, p1 .put .ensures)
 
 pub set-up-spec : {M : Type 1} → statement M
 set-up-spec =
@@ -57,5 +65,7 @@ set-up-spec =
     mul-end
     part-requires
     put-requires-5
+    slice-aggregate-put-3
+    put-requires-6
     same-length
     returns)

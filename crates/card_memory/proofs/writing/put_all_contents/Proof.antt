@@ -3,7 +3,9 @@ use Rattle.card_memory.proofs.ContentsRuns.{contents-next, contents-end
 use Prim.Native.Nat.{_+_, _-_, _*_, _≤_, _<_}
 use mathlib.Core.Path.{_≡_, refl, sym, _∙_}
 use lib.ListN.{length, drop}
-use Rattle.card_memory.specs.Encoding.{withContents}
+use Rattle.receiver_memory.specs.Puts.{putAll}
+use Rattle.card_memory.specs.Layout.{recordsAt, recordSize, recordPlaces}
+use Rattle.card_memory.specs.Encoding.{contentsPuts}
 use borrow.Author.Needs.{needs}
 use native.Mathlib.Omega.{arith}
 use Rattle.card_memory.proofs.writing.put_all_contents.Statement.{statement}
@@ -11,11 +13,11 @@ use Rattle.card_memory.proofs.writing.put_all_contents.Tie as tie
 
 abbrev Inv-loop : tie.InvT-loop
 Inv-loop memory₀ each at₀ i₀ memory at i =
-    (i ≤ 32) × (at ≡ 256 + 122 * i) × (length each ≡ 32) × (length memory ≡ length memory₀)
-    × (withContents at (drop i each) memory ≡ withContents 256 each memory₀)
+    (i ≤ recordPlaces) × (at ≡ recordsAt + recordSize * i) × (length each ≡ recordPlaces) × (length memory ≡ length memory₀)
+    × (putAll (contentsPuts at (drop i each)) memory ≡ putAll (contentsPuts recordsAt each) memory₀)
 
 abbrev μ-loop : tie.MeasureT-loop
-μ-loop memory₀ each at₀ i₀ memory at i = 32 - i
+μ-loop memory₀ each at₀ i₀ memory at i = recordPlaces - i
 
 loop-holds : tie.Need-loop-holds Inv-loop μ-loop
 loop-holds c = (omega arith, refl, c .before .good .1 .0 .1 .0 .1, refl, refl)

@@ -4,6 +4,7 @@ use mathlib.Core.List.{[], _∷_}
 use lib.ListN.{replicate}
 use Rattle.records.proofs.Shape.{storage-length}
 use Rattle.receiver_memory.specs.Fields.{narrowed}
+use Rattle.card_memory.specs.Layout.{storageSize}
 use Rattle.card_memory.specs.Encoding.{contentsImage}
 use Rattle.receiver_memory.proofs.Images.{after-front}
 use borrow.Author.Needs.{needs}
@@ -42,7 +43,7 @@ returns c =
     let w = p .before .before in
     let s = w .before .before .before .before .before in
     let r = s .args .stored in
-    rw (q .put2 .ensures, p .put .ensures, w .before .narrowed .ensures, after-front (narrowed (r .length .0) ∷ []) (replicate 116 0) (r .storage) (sym (storage-length r _ (s .good .1 .1 .0))))
+    rw (q .put2 .ensures, p .put .ensures, w .before .narrowed .ensures, after-front (narrowed (r .length .0) ∷ []) (replicate storageSize 0) (r .storage) (sym (storage-length r _ (s .good .1 .1 .0))))
 
 pub put-contents-spec : {M : Type 1} → statement M
 put-contents-spec =
