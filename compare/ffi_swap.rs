@@ -25,7 +25,13 @@ extern "C" {
         records: *mut usize,
         offset: *mut usize,
     ) -> u8;
-    fn propolisk_swap_start(file: *const u8, count: usize, at: *mut usize, left: *mut usize);
+    fn propolisk_swap_start(
+        file: *const u8,
+        count: usize,
+        at: *mut usize,
+        left: *mut usize,
+        offset: *mut usize,
+    ) -> u8;
     fn propolisk_swap_next(
         file: *const u8,
         count: usize,
@@ -80,9 +86,9 @@ pub fn verdict(file: &mut Lent, records: &mut usize, offset: &mut usize) -> u8 {
     unsafe { propolisk_swap_verdict(file.pointer(), count, records, offset) }
 }
 
-pub fn start(file: &mut Lent, at: &mut usize, left: &mut usize) {
+pub fn start(file: &mut Lent, at: &mut usize, left: &mut usize, offset: &mut usize) -> u8 {
     let count = file.count();
-    unsafe { propolisk_swap_start(file.pointer(), count, at, left) }
+    unsafe { propolisk_swap_start(file.pointer(), count, at, left, offset) }
 }
 
 pub fn next(file: &mut Lent, cells: &mut Cells) -> u8 {

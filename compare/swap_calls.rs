@@ -41,8 +41,8 @@ fn records(rng: &mut Rng) -> Vec<Record> {
         return bench::random_records(rng);
     }
     let mut records: Vec<Record> = (0..rng.below(9)).map(|_| record(rng)).collect();
-    records.sort_by_key(key);
-    records.dedup_by_key(|record| key(record));
+    records.sort_by_key(rank);
+    records.dedup_by_key(|record| rank(record));
     if records.len() > 1 {
         let place = rng.below(records.len() - 1);
         match rng.below(12) {
@@ -54,7 +54,7 @@ fn records(rng: &mut Rng) -> Vec<Record> {
     records
 }
 
-fn key(record: &Record) -> (Address, u8) {
+fn rank(record: &Record) -> (Address, u8) {
     (record.ads, record.tab)
 }
 
@@ -130,19 +130,28 @@ fn expected_next(file: &[u8], before: &Cells, station: Option<Address>) -> (u8, 
     (0, nothing)
 }
 
-/// The cursor of the first record: after the count, whatever count up to 2^32 - 1 stands there; the end where
-/// none does.
-fn start_case(file: &[u8]) -> Result<Cells, Disagreement> {
-    let (mut lent, mut at, mut left) = (Lent::new(file), BEFORE, BEFORE);
-    ours::start(&mut lent, &mut at, &mut left);
-    let (value, width) = number::read(file, u32::MAX as usize).unwrap_or((0, 0));
-    same((at, left, lent.still_holds(file)), (width, value, true), || hex::text(file))?;
-    Ok(cells(at, left))
+/// The cursor of an accepted file's first record, after the count, with all records left; no cursor for a
+/// faulty one, and 18 with the offset. Each cell that is not named is kept.
+fn start_case(file: &[u8]) -> Result<Option<Cells>, Disagreement> {
+    let (mut lent, mut at, mut left, mut offset) = (Lent::new(file), BEFORE, BEFORE, BEFORE);
+    let number = ours::start(&mut lent, &mut at, &mut left, &mut offset);
+    let expected = match swap::read(file) {
+        Ok(list) => (0, number::shortest_form(list.len()).len(), list.len(), BEFORE),
+        Err(Fault(offset)) => (18, BEFORE, BEFORE, offset),
+    };
+    same(
+        ((number, at, left, offset), lent.still_holds(file)),
+        (expected, true),
+        || hex::text(file),
+    )?;
+    Ok((number == 0).then(|| cells(at, left)))
 }
 
-/// From the start to the end: every record of an accepted file, and of a station its own and no others.
+/// From the start to the end: every record of an accepted file, and of a station its own and no others. From a
+/// cursor that no start gave, as far as records stand.
 fn walk(file: &[u8], station: Option<Address>) -> Result<usize, Disagreement> {
-    let (mut here, mut steps, mut seen) = (start_case(file)?, 0, vec![]);
+    let first = start_case(file)?;
+    let (mut here, mut steps, mut seen) = (first.clone().unwrap_or(cells(1, 20)), 0, vec![]);
     while steps < 20 {
         let after = next_case(file, &here, station)?;
         steps += 1;
@@ -152,16 +161,28 @@ fn walk(file: &[u8], station: Option<Address>) -> Result<usize, Disagreement> {
         seen.push((after.ads, after.tab));
         here = after;
     }
-    if let Ok(list) = swap::read(file) {
+    if first.is_some() {
+        let list = swap::read(file).expect("a file with a first cursor");
         let own = |record: &&Record| station.is_none_or(|station| station == record.ads);
-        let expected: Vec<(Address, u8)> = list.iter().filter(own).map(key).collect();
+        let expected: Vec<(Address, u8)> = list.iter().filter(own).map(rank).collect();
         same(seen, expected, || format!("{} {station:?}", hex::text(file)))?;
     }
     Ok(steps)
 }
 
+/// Files that a cursor over their count would walk to an end, though the reader refuses them: no octets, a count
+/// in a longer form, falling records.
+fn refused_starts() -> Result<usize, Disagreement> {
+    let falling: Vec<Record> = rising(2, 3).into_iter().rev().collect();
+    let files = [vec![], vec![0x81, 0x00], swap::encode(&falling)];
+    for file in &files {
+        same(start_case(file)?, None, || hex::text(file))?;
+    }
+    Ok(files.len())
+}
+
 pub fn reading(rng: &mut Rng, cases: usize) -> Result<usize, Disagreement> {
-    let mut tried = 0;
+    let mut tried = refused_starts()?;
     while tried < cases {
         let file = file(rng);
         verdict_case(&file)?;
@@ -338,7 +359,7 @@ pub fn listing(rng: &mut Rng, cases: usize) -> Result<usize, Disagreement> {
                 kept.push(record);
             }
         }
-        kept.sort_by_key(key);
+        kept.sort_by_key(rank);
         let (heads, contents) = as_lent(&kept);
         same(list.counts, (kept.len(), contents.len()), || "counts".into())?;
         same(list.heads.octets().starts_with(&heads), true, || "heads in order".into())?;

@@ -19,15 +19,18 @@
  * 18: it is faulty; *offset is the start of its first bad item, or 65,536 where it is too long. */
 uint8_t propolisk_swap_verdict(const uint8_t *file, size_t count, size_t *records, size_t *offset);
 
-/* The cursor of the first record: the offset at which it stands, and how many records are left from there on. A cursor is good for the
- * file it was made of; a file that is not accepted may have one too. */
-void propolisk_swap_start(const uint8_t *file, size_t count, size_t *at, size_t *left);
+/* Judges the file, as the verdict does, and gives the cursor of its first record. From there on propolisk_swap_next gives all records of
+ * the file, and propolisk_swap_next_for all of a station, in order, and then the end; neither gives 18.
+ *  0: *at is the offset at which the first record stands, *left how many records are left from there on. A cursor is good for the file it
+ *     was made of, as long as nobody writes to the file.
+ * 18: the file is faulty; *offset is what the verdict gives. *at and *left are kept: there is no cursor to go on with. */
+uint8_t propolisk_swap_start(const uint8_t *file, size_t count, size_t *at, size_t *left, size_t *offset);
 
 /* The record at a cursor.
  *  0: *found says whether a record was left. If so, its ADS, TAB and kind are in the cells, its data is the *length octets of the file
  *     from *from on, and the cursor goes on to the next record; if not, every other cell is kept.
- * 18: no record stands at the cursor: it is none of this file, or the file is not one that the verdict accepts. *found is false, and all else is
- *     kept; propolisk_swap_verdict gives the offset of a file's first bad item.
+ * 18: no record stands at the cursor: propolisk_swap_start did not give it for this file, nor did a call after that. *found is false, and
+ *     all else is kept.
  * *found holds false or true before the call too, as any bool does that C reads. */
 uint8_t propolisk_swap_next(const uint8_t *file, size_t count, size_t *at, size_t *left, bool *found, uint8_t ads[6], uint8_t *tab,
                             uint8_t *kind, size_t *from, size_t *length);

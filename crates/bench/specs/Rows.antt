@@ -1,48 +1,52 @@
--- The rows of 01, Measured on the bench, that are marked P, in the paper's order.
+-- The rows of 01, Measured on the bench, that are marked P, in the paper's order. What a row leaves open, it holds for all of.
 use mathlib.Core.Path.{_≡_}
-use mathlib.Core.List.{List, [], _∷_}
-use Prim.Native.Nat.{ℕ}
-use lib.ListN.{replicate}
+use mathlib.Core.List.{List, [], _∷_, _++_}
+use Prim.Native.Nat.{ℕ, _≤_}
+use lib.ListN.{length}
 use Rattle.numbers.specs.declared.Octets.{Octets}
 use Rattle.numbers.specs.declared.Characters.{Characters}
 use Rattle.numbers.specs.Counts.{inOctets, inCharacters}
-use Rattle.numbers.specs.Answer.{Answer, given, refusedAt}
+use Rattle.numbers.specs.Answer.{Answer, given, refused, refusedAt}
+use Rattle.numbers.specs.Table.{tooLong, illFormed, faultyFile}
 use Rattle.label.specs.Fitting.{fitOf}
 use Rattle.frame.specs.declared.codes.Command.{Command}
 use Rattle.frame.specs.declared.codes.Command.the-variants.{Rec, Trf}
-use Rattle.frame.specs.declared.builder.Built.{Built}
-use Rattle.frame.specs.declared.builder.Built.the-variants as built
-use Rattle.frame.specs.Checks.{noFields}
-use Rattle.frame.specs.Building.{built, refusalNumber}
-use Rattle.number.specs.Groups.{encoded}
+use Rattle.frame.specs.declared.content.Fields.{Fields}
+use Rattle.frame.specs.Sizes.{longestFrame}
+use Rattle.frame.specs.Content.{Shaped}
+use Rattle.frame.specs.Building.{built}
+use Rattle.number.specs.Groups.{encoded, found, frontOf}
 use Rattle.swap.specs.declared.file.Records.{Records}
+use Rattle.swap.specs.Record.{fileLimit}
 use Rattle.swap.specs.Reading.{verdictOf}
 
--- what building a frame comes to: its whole length, or 01's number
-pub data Frame : Type 0 where
-  whole : ℕ → Frame
-  number : ℕ → Frame
+-- a limit that a row names, or one that it leaves open
+pub data Limit : Type 0 where
+  exactly : ℕ → Limit
+  any : Limit
 
-abbrev pub frameOf : Built → Frame
-frameOf (built.Frame octets) = whole (octets .0)
-frameOf (built.Refused refusal) = number (refusalNumber refusal)
+abbrev pub Allows : Limit → ℕ → Type 0
+Allows (exactly limit) n = n ≡ limit
+Allows any n = Unit {0}
 
 pub data Row : Type 0 where
-  -- a command with so many octets of DATA in a buffer of 128, and what building it comes to
-  builds : Command → ℕ → Frame → Row
-  -- a number, and its octets in the swap file
-  encodes : ℕ → List ℕ → Row
-  -- a swap file, and what reading it answers
-  judges : List ℕ → Answer Records → Row
+  -- a command with so many octets of DATA, and what building it answers: for every ADS, ADP, TAB and other field, all data, and every buffer of a whole frame's length or more
+  builds : Command → ℕ → Answer Octets → Row
   -- a label, its octet limit and its character limit, and what fitting answers
-  fits : List ℕ → ℕ → ℕ → Answer (Octets × Characters) → Row
+  fits : List ℕ → Limit → Limit → Answer (Octets × Characters) → Row
+  -- a number, and its octets in the swap file: it is written so, and read so whatever follows
+  encodes : ℕ → List ℕ → Row
+  -- how a swap file begins, and what reading it answers, whatever follows within the file's limit
+  judges : List ℕ → Answer Records → Row
 
 -- what a row says
 abbrev pub Holds : Row → Type 0
-Holds (builds command count frame) = frameOf (built (replicate 128 0) command noFields (replicate count 0) .answer) ≡ frame
-Holds (encodes n octets) = encoded n ≡ octets
-Holds (judges file answer) = verdictOf file ≡ answer
-Holds (fits label octets characters answer) = fitOf label (inOctets octets) (inCharacters characters) ≡ answer
+Holds (builds command count answer) =
+    (buffer : List ℕ) (fields : Fields) (content : List ℕ) → longestFrame ≤ length buffer → Shaped fields → length content ≡ count → built buffer command fields content .answer ≡ answer
+Holds (fits label octetLimit characterLimit answer) =
+    (octets characters : ℕ) → Allows octetLimit octets → Allows characterLimit characters → fitOf label (inOctets octets) (inCharacters characters) ≡ answer
+Holds (encodes n octets) = (encoded n ≡ octets) × ((rest : List ℕ) → frontOf (octets ++ rest) ≡ found n (length octets))
+Holds (judges front answer) = (rest : List ℕ) → length (front ++ rest) ≤ fileLimit → verdictOf (front ++ rest) ≡ answer
 
 -- each row of a list holds
 pub data Each : List Row → Type 0 where
@@ -53,25 +57,32 @@ pub data Each : List Row → Type 0 where
 abbrev pub kept : ℕ → ℕ → Answer (Octets × Characters)
 kept octets characters = given (inOctets octets, inCharacters characters)
 
+-- a frame of so many octets
+abbrev pub whole : ℕ → Answer Octets
+whole octets = given (inOctets octets)
+
 -- 8 with the offset
 abbrev pub illFormedAt : ℕ → Answer (Octets × Characters)
-illFormedAt offset = refusedAt 8 (inOctets offset)
+illFormedAt offset = refusedAt illFormed (inOctets offset)
 
--- `E2 82 AC` names no character limit in 01: 9, as the rows before it
+-- É and é, of two octets each
+abbrev pub twoLetters : List ℕ
+twoLetters = 0xC3 ∷ 0x89 ∷ 0xC3 ∷ 0xA9 ∷ []
+
 abbrev pub rows : List Row
 rows =
     builds Trf 116 (whole 128) ∷
-    builds Trf 117 (number 7) ∷
+    builds Trf 117 (refused tooLong) ∷
     builds Rec 100 (whole 128) ∷
-    builds Rec 101 (number 7) ∷
-    fits (0xC3 ∷ 0x89 ∷ 0xC3 ∷ 0xA9 ∷ []) 3 9 (kept 2 1) ∷
-    fits (0xC3 ∷ 0x89 ∷ 0xC3 ∷ 0xA9 ∷ []) 4 1 (kept 2 1) ∷
-    fits (0xC3 ∷ 0x89 ∷ 0xC3 ∷ 0xA9 ∷ []) 1 9 (kept 0 0) ∷
-    fits [] 3 9 (kept 0 0) ∷
-    fits (0xE2 ∷ 0x82 ∷ 0xAC ∷ []) 2 9 (kept 0 0) ∷
-    fits (0x41 ∷ 0xC3 ∷ []) 116 116 (illFormedAt 1) ∷
-    fits (0xC0 ∷ 0x80 ∷ []) 116 116 (illFormedAt 0) ∷
-    fits (0xED ∷ 0xA0 ∷ 0x80 ∷ []) 116 116 (illFormedAt 0) ∷
-    fits (0xF4 ∷ 0x90 ∷ 0x80 ∷ 0x80 ∷ []) 116 116 (illFormedAt 0) ∷
+    builds Rec 101 (refused tooLong) ∷
+    fits twoLetters (exactly 3) (exactly 9) (kept 2 1) ∷
+    fits twoLetters (exactly 4) (exactly 1) (kept 2 1) ∷
+    fits twoLetters (exactly 1) (exactly 9) (kept 0 0) ∷
+    fits [] any any (kept 0 0) ∷
+    fits (0xE2 ∷ 0x82 ∷ 0xAC ∷ []) (exactly 2) any (kept 0 0) ∷
+    fits (0x41 ∷ 0xC3 ∷ []) any any (illFormedAt 1) ∷
+    fits (0xC0 ∷ 0x80 ∷ []) any any (illFormedAt 0) ∷
+    fits (0xED ∷ 0xA0 ∷ 0x80 ∷ []) any any (illFormedAt 0) ∷
+    fits (0xF4 ∷ 0x90 ∷ 0x80 ∷ 0x80 ∷ []) any any (illFormedAt 0) ∷
     encodes 4096 (0x80 ∷ 0x20 ∷ []) ∷
-    judges (0x81 ∷ 0x00 ∷ []) (refusedAt 18 (inOctets 0)) ∷ []
+    judges (0x81 ∷ 0x00 ∷ []) (refusedAt faultyFile (inOctets 0)) ∷ []

@@ -1,6 +1,6 @@
 -- Each number has one form: reading takes back what writing gave, what was read is written the same, and two forms of one number are equal.
 use Prim.Native.Nat.{ℕ, _+_, _≤_, _<_, _^_}
-use mathlib.Core.Path.{_≡_, refl, sym, _∙_}
+use mathlib.Core.Path.{_≡_, refl, sym, ap, _∙_}
 use mathlib.Core.Bool.{Bool, true, false}
 use mathlib.Core.List.{List, _++_, append-nil, append-assoc}
 use native.Mathlib.Omega.{arith}
@@ -10,7 +10,9 @@ use lib.Dec.{ltb}
 use borrow.Author.Tests.{lt-ltb, le-leb}
 use Rattle.number.specs.Groups.{encoded, Front, found, none, frontOf, placed, readAt, octetsAt}
 use Rattle.numbers.specs.Table.{faultyFile}
-use Rattle.number.specs.Answers.{numberThere, refusedAt}
+use Rattle.numbers.specs.Counts.{inOctets}
+use Rattle.numbers.specs.declared.Octets.{Octets}
+use Rattle.numbers.specs.Answer.{Answer, given, refusedAt}
 use Rattle.number.proofs.Fronts.{front-encoded, encoded-front, Formed}
 
 -- the form of n with anything behind it
@@ -34,22 +36,29 @@ own-form m s n w e = go (ltb m (2 ^ 32)) refl
         absurd y
 
 -- a number that was written is read where it was written
-pub read-written : (s : List ℕ) (at n : ℕ) → n < 2 ^ 32 → at + length (encoded n) ≤ length s → readAt (octetsAt s at n) at ≡ numberThere n (at + length (encoded n))
+pub read-written : (s : List ℕ) (at n : ℕ) → n < 2 ^ 32 → at + length (encoded n) ≤ length s → readAt (octetsAt s (inOctets at) n) (inOctets at) ≡ given (n, inOctets (at + length (encoded n)))
 unfolding readAt octetsAt placed
 read-written s at n h r =
     let p : length (take at s) ≡ at = length-take-le at s (omega arith) in
     rw (le-leb _ _ r, take-length (encoded n), append-assoc (take at s) (encoded n), drop-at (take at s) _ at p, front-form n _ h)
 
+-- two answers with a number and an offset are one only if both are
+same-given : (m n : ℕ) (a b : Octets) → _≡_ {A = Answer (ℕ × Octets)} (given (m, a)) (given (n, b)) → (m ≡ n) × (a .0 ≡ b .0)
+same-given m n a b e =
+    let p : _≡_ {A = ℕ × Octets} (m, a) (n, b) = cc in
+    (ap (λ (v : ℕ × Octets). v .0) p, ap (λ (v : ℕ × Octets). v .1 .0) p)
+
 -- what is read as n stands in n's own octets
-pub written-read : (s : List ℕ) (at n w : ℕ) → ((i : ℕ) → getD s i 0 < 256) → readAt s at ≡ numberThere n (at + w) → take w (drop at s) ≡ encoded n
+pub written-read : (s : List ℕ) (at n w : ℕ) → ((i : ℕ) → getD s i 0 < 256) → readAt s (inOctets at) ≡ given (n, inOctets (at + w)) → take w (drop at s) ≡ encoded n
 unfolding readAt placed
 written-read s at n w b e = go (frontOf (drop at s)) refl e
   where
-    go : (f : Front) → frontOf (drop at s) ≡ f → placed at f ≡ numberThere n (at + w) → take w (drop at s) ≡ encoded n
+    go : (f : Front) → frontOf (drop at s) ≡ f → placed (inOctets at) f ≡ given (n, inOctets (at + w)) → take w (drop at s) ≡ encoded n
     go none q r = let z : _≡_ {A = ℕ} 0 1 = cc in let y : ⊥ = omega arith in absurd y
     go (found m v) q r =
-        let p : m ≡ n = cc in
-        let k : at + v ≡ at + w = cc in
+        let g = same-given m n _ _ r in
+        let p : m ≡ n = g .0 in
+        let k : at + v ≡ at + w = g .1 in
         let k′ : v ≡ w = omega arith in
         let f : Formed m v (drop at s) = encoded-front (drop at s) m v (λ i. rw getD-drop (b (at + i))) q in
         rw (← p, ← k′, f .octets) (take-at (encoded m) _ v (sym (f .width)))
@@ -62,21 +71,20 @@ one-form s t n bs bt p q = whole s bs p ∙ sym (whole t bt q)
     whole r b e = encoded-front r n (length r) b e .octets ∙ rw (drop-length r, append-nil)
 
 -- the reader's answer, as the number at the front of what stands from the offset on
-pub read-front : (s : List ℕ) (at n next : ℕ) → readAt s at ≡ numberThere n next → (w : ℕ) × (frontOf (drop at s) ≡ found n w) × (next ≡ at + w)
+pub read-front : (s : List ℕ) (at n next : ℕ) → readAt s (inOctets at) ≡ given (n, inOctets next) → (w : ℕ) × (frontOf (drop at s) ≡ found n w) × (next ≡ at + w)
 unfolding readAt placed
 read-front s at n next e = go (frontOf (drop at s)) refl e
   where
-    go : (f : Front) → frontOf (drop at s) ≡ f → placed at f ≡ numberThere n next → (w : ℕ) × (frontOf (drop at s) ≡ found n w) × (next ≡ at + w)
+    go : (f : Front) → frontOf (drop at s) ≡ f → placed (inOctets at) f ≡ given (n, inOctets next) → (w : ℕ) × (frontOf (drop at s) ≡ found n w) × (next ≡ at + w)
     go none q r = let z : _≡_ {A = ℕ} 0 1 = cc in let y : ⊥ = omega arith in absurd y
     go (found m v) q r =
-        let p : m ≡ n = cc in
-        let k : at + v ≡ next = cc in
-        (v, q ∙ rw p, sym k)
+        let g = same-given m n _ _ r in
+        (v, q ∙ rw (g .0), sym (g .1))
 
-pub read-faulty : (s : List ℕ) (at : ℕ) → readAt s at ≡ refusedAt faultyFile at → frontOf (drop at s) ≡ none
+pub read-faulty : (s : List ℕ) (at : ℕ) → readAt s (inOctets at) ≡ refusedAt faultyFile (inOctets at) → frontOf (drop at s) ≡ none
 unfolding readAt placed
 read-faulty s at e = go (frontOf (drop at s)) e
   where
-    go : (f : Front) → placed at f ≡ refusedAt faultyFile at → f ≡ none
+    go : (f : Front) → placed (inOctets at) f ≡ refusedAt faultyFile (inOctets at) → f ≡ none
     go none r = refl
     go (found m v) r = let z : _≡_ {A = ℕ} 0 1 = cc in let y : ⊥ = omega arith in absurd y

@@ -12,7 +12,8 @@ use lib.Dec.{ltb, lit<, lit≤}
 use borrow.Author.Tests.{lt-ltb, le-ltb, le-leb, lt-leb}
 use Rattle.number.specs.Groups.{groups, encoded, writtenAt, octetsAt}
 use Rattle.numbers.specs.Table.{wrongLength}
-use Rattle.number.specs.Answers.{wroteTo, refusedWith}
+use Rattle.numbers.specs.Counts.{inOctets}
+use Rattle.numbers.specs.Answer.{given, refused}
 
 -- a number below 128 is one octet; any other has its low group first
 pub one-group : (k n : ℕ) → n < 128 → groups k n ≡ n ∷ []
@@ -102,12 +103,12 @@ module _ (s : List ℕ) (at n : ℕ) (octets : List ℕ) (rest next j k : ℕ) (
       let g : groups k rest ≡ rest ∷ [] = one-group k rest h in
       omega (arith, within l rest [] g, length-drop (j + 1) (encoded n), ap length (tail-at (encoded n) j rest [] (l .left ∙ g)))
 
-  pub written-octets : set octets next rest ≡ octetsAt s at n
+  pub written-octets : set octets next rest ≡ octetsAt s (inOctets at) n
   unfolding octetsAt
   written-octets =
       rw (le-leb _ _ (l .room), ← laid-all) (stored l rest [] (one-group k rest h))
 
-  pub written-next : wroteTo (next + 1) ≡ writtenAt s at n
+  pub written-next : given (inOctets (next + 1)) ≡ writtenAt s (inOctets at) n
   unfolding writtenAt
   written-next =
       let e : next + 1 ≡ at + length (encoded n) = omega (arith, laid-all, l .place) in
@@ -115,11 +116,11 @@ module _ (s : List ℕ) (at n : ℕ) (octets : List ℕ) (rest next j k : ℕ) (
 
 -- where it does not fit
 module _ (s : List ℕ) (at n : ℕ) (h : length s < at + length (encoded n)) where
-  pub short-answer : refusedWith wrongLength ≡ writtenAt s at n
+  pub short-answer : refused wrongLength ≡ writtenAt s (inOctets at) n
   unfolding writtenAt
   short-answer = rw (lt-leb _ _ h)
 
-  pub short-octets : s ≡ octetsAt s at n
+  pub short-octets : s ≡ octetsAt s (inOctets at) n
   unfolding octetsAt
   short-octets = rw (lt-leb _ _ h)
 

@@ -5,8 +5,10 @@ use mathlib.Core.Bool.{cond}
 use lib.ListN.{length, drop}
 use lib.Seq.{paste}
 use lib.Dec.{ltb, leb, eqb}
+use Rattle.numbers.specs.declared.Octets.{Octets}
+use Rattle.numbers.specs.Counts.{inOctets}
+use Rattle.numbers.specs.Answer.{Answer, given, refused, refusedAt}
 use Rattle.numbers.specs.Table.{faultyFile, wrongLength}
-use Rattle.number.specs.Answers.{Read, numberThere, refusedAt, Wrote, wroteTo, refusedWith}
 
 -- the octets of n, of which at most so many are followed by another
 unfoldable pub groups : ℕ → ℕ → List ℕ
@@ -43,18 +45,18 @@ unfoldable pub frontOf : List ℕ → Front
 frontOf s = bounded (decoded 5 s)
 
 -- a number found at an offset, with the offset after it; 18 at the offset where there is none
-unfoldable pub placed : ℕ → Front → Read
-placed at (found n w) = numberThere n (at + w)
+unfoldable pub placed : Octets → Front → Answer (ℕ × Octets)
+placed at (found n w) = given (n, inOctets (at .0 + w))
 placed at none = refusedAt faultyFile at
 
 -- what stands at an offset
-unfoldable pub readAt : List ℕ → ℕ → Read
-readAt s at = placed at (frontOf (drop at s))
+unfoldable pub readAt : List ℕ → Octets → Answer (ℕ × Octets)
+readAt s at = placed at (frontOf (drop (at .0) s))
 
 -- what writing n at an offset answers: the offset after it, or 17 where it does not fit
-unfoldable pub writtenAt : List ℕ → ℕ → ℕ → Wrote
-writtenAt s at n = cond (leb (at + length (encoded n)) (length s)) (wroteTo (at + length (encoded n))) (refusedWith wrongLength)
+unfoldable pub writtenAt : List ℕ → Octets → ℕ → Answer Octets
+writtenAt s at n = cond (leb (at .0 + length (encoded n)) (length s)) (given (inOctets (at .0 + length (encoded n)))) (refused wrongLength)
 
 -- the octets after that: those of n from the offset on, where it fits
-unfoldable pub octetsAt : List ℕ → ℕ → ℕ → List ℕ
-octetsAt s at n = cond (leb (at + length (encoded n)) (length s)) (paste s at (encoded n) (length (encoded n))) s
+unfoldable pub octetsAt : List ℕ → Octets → ℕ → List ℕ
+octetsAt s at n = cond (leb (at .0 + length (encoded n)) (length s)) (paste s (at .0) (encoded n) (length (encoded n))) s

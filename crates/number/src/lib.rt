@@ -3,32 +3,29 @@ ghost use mathlib.Core.Path.{_≡_};
 ghost use lib.ListN.{length};
 ghost use Rattle.number.specs.Answers.{answerOfReading, answerOfWritten};
 ghost use Rattle.number.specs.Groups.{encoded, readAt, writtenAt, octetsAt};
+use numbers::Octets;
+use octets::wide;
 
 // What stands at an offset: a number in its shortest form with the offset after it, or no such number.
 pub enum Reading {
-    Number { value: u32, next: usize },
+    Number { value: u32, next: Octets },
     Faulty,
 }
 
 // What writing a number answers: the offset after it, or that it does not fit.
 pub enum Written {
-    Next(usize),
+    Next(Octets),
     Short,
 }
 
-fn wide(octet: u8) -> u64
-    ensures { λ r. ⌜ r ≡ octet ⌝ }
-{
-    octet as u64
-}
-
 // The number whose octets start at an offset. An offset past the end has none.
-pub fn read(octets: &[u8], at: usize) -> Reading
+pub fn read(octets: &[u8], at: Octets) -> Reading
     ensures { λ r. ⌜ answerOfReading at r ≡ readAt (now (octets .entry)) at ⌝ }
 {
+    let start = at.0;
     let mut value: u64 = 0;
     let mut scale: u64 = 1;
-    let mut next = at;
+    let mut next = start;
     let mut left: usize = 5;
     while 0 < left {
         if octets.len() <= next {
@@ -37,7 +34,7 @@ pub fn read(octets: &[u8], at: usize) -> Reading
         let octet = wide(octets[next]);
         if octet < 128 {
             if octet == 0 {
-                if at < next {
+                if start < next {
                     return Reading::Faulty;
                 }
             }
@@ -47,7 +44,7 @@ pub fn read(octets: &[u8], at: usize) -> Reading
             }
             return Reading::Number {
                 value: whole as u32,
-                next: next + 1,
+                next: Octets(next + 1),
             };
         }
         value += octet % 128 * scale;
@@ -59,43 +56,45 @@ pub fn read(octets: &[u8], at: usize) -> Reading
 }
 
 // How many octets a number takes.
-pub fn width(n: u32) -> usize
-    ensures { λ r. ⌜ r ≡ length (encoded n) ⌝ }
+pub fn width(n: u32) -> Octets
+    ensures { λ r. ⌜ r .0 ≡ length (encoded n) ⌝ }
 {
     if n < 128 {
-        return 1;
+        return Octets(1);
     }
     if n < 16384 {
-        return 2;
+        return Octets(2);
     }
     if n < 2097152 {
-        return 3;
+        return Octets(3);
     }
     if n < 268435456 {
-        return 4;
+        return Octets(4);
     }
-    5
+    Octets(5)
 }
 
 // Writes a number's octets from an offset on; where they do not fit, nothing is written.
-pub fn write(octets: &mut [u8], at: usize, n: u32) -> Written
+pub fn write(octets: &mut [u8], at: Octets, n: u32) -> Written
     ensures { λ r. ⌜ (answerOfWritten r ≡ writtenAt (now (octets .entry)) at n) × (now (octets .exit) ≡ octetsAt (now (octets .entry)) at n) ⌝ }
 {
-    let size = width(n);
+    let start = at.0;
+    let taken = width(n);
+    let size = taken.0;
     let room = octets.len();
     if room < size {
         return Written::Short;
     }
-    if room - size < at {
+    if room - size < start {
         return Written::Short;
     }
     let mut rest = n;
-    let mut next = at;
+    let mut next = start;
     while 128 <= rest {
         octets[next] = (rest % 128 + 128) as u8;
         rest /= 128;
         next += 1;
     }
     octets[next] = rest as u8;
-    Written::Next(next + 1)
+    Written::Next(Octets(next + 1))
 }

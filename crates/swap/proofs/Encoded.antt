@@ -12,7 +12,7 @@ use Rattle.number.proofs.Fronts.{encoded-front}
 use Rattle.number.proofs.Forms.{front-form, own-form}
 use Rattle.swap.specs.declared.kind.Kind.{Kind}
 use Rattle.swap.specs.declared.kind.Kind.the-variants.{Raw, Label}
-use Rattle.swap.specs.Record.{Record, Sound, OfOctets, Each, key, keyOf, kindOf, lengthLimit}
+use Rattle.swap.specs.Record.{Record, Sound, OfOctets, Each, rank, rankOf, kindOf, lengthLimit}
 use Rattle.swap.specs.Encoding.{recordOctets}
 use Rattle.swap.specs.Items.{recordAt}
 use Rattle.swap.proofs.Shown.{Shown}
@@ -62,17 +62,17 @@ module _ (r : Record) (rest t : List ℕ) (six : length (r .ads) ≡ 6) (is : t 
   unfolding recordOctets
   long-enough = rw is (simp length-append (omega (arith, six)))
 
-  pub key-front : keyOf (take 7 t) ≡ key r
-  unfolding key
-  key-front = rw (take-suc t 6 0 (omega (arith, long-enough)), ads-front, tab-next)
+  pub rank-front : rankOf (take 7 t) ≡ rank r
+  unfolding rank
+  rank-front = rw (take-suc t 6 0 (omega (arith, long-enough)), ads-front, tab-next)
 
   length-front : Sound r → frontOf (drop 8 t) ≡ found (length (r .content)) (length (encoded (length (r .content))))
   length-front sound = rw from-length (front-form (length (r .content)) _ (omega (arith, sound .short, limit-small (kindOf (r .kind)))))
 
-  pub record-shown : Sound r → (least : ℕ) → least ≤ key r → Shown least t (length (encoded (length (r .content)))) (length (r .content))
+  pub record-shown : Sound r → (least : ℕ) → least ≤ rank r → Shown least t (length (encoded (length (r .content)))) (length (r .content))
   record-shown sound least h =
       record {
-        high = rw key-front h;
+        high = rw rank-front h;
         known = rw kind-next (sound .known);
         front = length-front sound;
         short = rw kind-next (sound .short);
@@ -107,9 +107,9 @@ module _ (least : ℕ) (t : List ℕ) (w n : ℕ) (h : Shown least t w n) (octet
   content-length : length (take n (drop (8 + w) t)) ≡ n
   content-length = length-take-le n (drop (8 + w) t) (omega (arith, h .fits, length-drop (8 + w) t))
 
-  pub key-shown : key (recordAt w n t) ≡ keyOf (take 7 t)
-  unfolding key recordAt
-  key-shown = rw (take-suc t 6 0 (omega (arith, h .fits)))
+  pub rank-shown : rank (recordAt w n t) ≡ rankOf (take 7 t)
+  unfolding rank recordAt
+  rank-shown = rw (take-suc t 6 0 (omega (arith, h .fits)))
 
   pub shown-sound : Sound (recordAt w n t)
   unfolding recordAt

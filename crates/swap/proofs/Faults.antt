@@ -15,7 +15,7 @@ use Rattle.numbers.specs.Counts.{inOctets}
 use Rattle.numbers.specs.Answer.{refusedAt}
 use Rattle.number.specs.Groups.{Front, found, none, frontOf}
 use Rattle.swap.specs.declared.kind.Kind.{Kind}
-use Rattle.swap.specs.Record.{Record, kindOf, keyOf, countLimit, fileLimit}
+use Rattle.swap.specs.Record.{Record, kindOf, rankOf, countLimit, fileLimit}
 use Rattle.swap.specs.Items.{Judged, bad, good, judged, judgedContent, goodAddress, goodKind, goodContent, lengthAt, limited, recordAt}
 use Rattle.swap.specs.Reading.{Outcome, faulty, listed, preceded, readRecords, readCounted, readFile, answered, verdictOf}
 use Rattle.swap.proofs.Shown.{within-limit}
@@ -32,20 +32,20 @@ fate (listed rs) = clean
 
 -- what the reading comes to from an item on, which is due at an offset
 fromContent : ℕ → ℕ → Kind → ℕ → ℕ → List ℕ → Fate
-fromContent k key kind n at t = cond (goodContent kind n t) (fate (readRecords k (suc key) (at + n) (drop n t))) (badAt at)
+fromContent k rank kind n at t = cond (goodContent kind n t) (fate (readRecords k (suc rank) (at + n) (drop n t))) (badAt at)
 
 fromMeasured : ℕ → ℕ → Kind → Front → ℕ → List ℕ → Fate
-fromMeasured k key kind none at t = badAt at
-fromMeasured k key kind (found n w) at t = fromContent k key kind n (at + w) (drop w t)
+fromMeasured k rank kind none at t = badAt at
+fromMeasured k rank kind (found n w) at t = fromContent k rank kind n (at + w) (drop w t)
 
 fromKind : ℕ → ℕ → ℕ → List ℕ → Fate
-fromKind k key at t =
+fromKind k rank at t =
     cond (goodKind t)
-    (fromMeasured k key (kindOf (getD t 0 0)) (lengthAt (kindOf (getD t 0 0)) (drop 1 t)) (at + 1) (drop 1 t))
+    (fromMeasured k rank (kindOf (getD t 0 0)) (lengthAt (kindOf (getD t 0 0)) (drop 1 t)) (at + 1) (drop 1 t))
     (badAt at)
 
 fromAddress : ℕ → ℕ → ℕ → List ℕ → Fate
-fromAddress k least at t = cond (goodAddress least t) (fromKind k (keyOf (take 7 t)) (at + 7) (drop 7 t)) (badAt at)
+fromAddress k least at t = cond (goodAddress least t) (fromKind k (rankOf (take 7 t)) (at + 7) (drop 7 t)) (badAt at)
 
 fate-preceded : (r : Record) (out : Outcome) → fate (preceded r out) ≡ fate out
 unfolding fate preceded
@@ -54,23 +54,23 @@ fate-preceded r (listed rs) = refl
 
 -- a record and those after it, by what was judged of it
 judgedFate : ℕ → ℕ → ℕ → List ℕ → Judged → Fate
-judgedFate k key at t (bad o) = badAt (at + o)
-judgedFate k key at t (good w n) = fate (readRecords k (suc key) (at + (8 + w + n)) (drop (8 + w + n) t))
+judgedFate k rank at t (bad o) = badAt (at + o)
+judgedFate k rank at t (good w n) = fate (readRecords k (suc rank) (at + (8 + w + n)) (drop (8 + w + n) t))
 
-records-fate : (k least at : ℕ) (t : List ℕ) → fate (readRecords (suc k) least at t) ≡ judgedFate k (keyOf (take 7 t)) at t (judged least t)
+records-fate : (k least at : ℕ) (t : List ℕ) → fate (readRecords (suc k) least at t) ≡ judgedFate k (rankOf (take 7 t)) at t (judged least t)
 unfolding fate readRecords judgedFate
 records-fate k least at t = go (judged least t)
   where
-    go : (j : Judged) → fate (elim j [ bad o ↦ faulty (at + o) | good w n ↦ preceded (recordAt w n t) (readRecords k (suc (keyOf (take 7 t))) (at + (8 + w + n)) (drop (8 + w + n) t)) ]) ≡ judgedFate k (keyOf (take 7 t)) at t j
+    go : (j : Judged) → fate (elim j [ bad o ↦ faulty (at + o) | good w n ↦ preceded (recordAt w n t) (readRecords k (suc (rankOf (take 7 t))) (at + (8 + w + n)) (drop (8 + w + n) t)) ]) ≡ judgedFate k (rankOf (take 7 t)) at t j
     go (bad o) = refl
     go (good w n) = fate-preceded (recordAt w n t) _
 
-content-fate : (k key : ℕ) (kind : Kind) (f : Front) (at : ℕ) (t : List ℕ) → judgedFate k key at t (judgedContent kind f (drop 8 t)) ≡ fromMeasured k key kind f (at + 8) (drop 8 t)
+content-fate : (k rank : ℕ) (kind : Kind) (f : Front) (at : ℕ) (t : List ℕ) → judgedFate k rank at t (judgedContent kind f (drop 8 t)) ≡ fromMeasured k rank kind f (at + 8) (drop 8 t)
 unfolding judgedFate judgedContent fromMeasured fromContent
-content-fate k key kind none at t = refl
-content-fate k key kind (found n w) at t = go (goodContent kind n (drop w (drop 8 t)))
+content-fate k rank kind none at t = refl
+content-fate k rank kind (found n w) at t = go (goodContent kind n (drop w (drop 8 t)))
   where
-    go : (b : Bool) → judgedFate k key at t (cond b (good w n) (bad (8 + w))) ≡ cond b (fate (readRecords k (suc key) (at + 8 + w + n) (drop n (drop w (drop 8 t))))) (badAt (at + 8 + w))
+    go : (b : Bool) → judgedFate k rank at t (cond b (good w n) (bad (8 + w))) ≡ cond b (fate (readRecords k (suc rank) (at + 8 + w + n) (drop n (drop w (drop 8 t))))) (badAt (at + 8 + w))
     go true =
         let e : at + (8 + w + n) ≡ at + 8 + w + n = omega arith in
         rw (drop-drop w 8 t, drop-drop n (8 + w) t, e)
@@ -83,10 +83,10 @@ address-fate k least at t = records-fate k least at t ∙ go (goodAddress least 
     kind : Kind
     kind = kindOf (getD t 7 0)
 
-    go : (a b : Bool) → judgedFate k (keyOf (take 7 t)) at t (cond a (cond b (judgedContent kind (lengthAt kind (drop 8 t)) (drop 8 t)) (bad 7)) (bad 0)) ≡ cond a (cond b (fromMeasured k (keyOf (take 7 t)) (kindOf (getD (drop 7 t) 0 0)) (lengthAt (kindOf (getD (drop 7 t) 0 0)) (drop 1 (drop 7 t))) (at + 7 + 1) (drop 1 (drop 7 t))) (badAt (at + 7))) (badAt at)
+    go : (a b : Bool) → judgedFate k (rankOf (take 7 t)) at t (cond a (cond b (judgedContent kind (lengthAt kind (drop 8 t)) (drop 8 t)) (bad 7)) (bad 0)) ≡ cond a (cond b (fromMeasured k (rankOf (take 7 t)) (kindOf (getD (drop 7 t) 0 0)) (lengthAt (kindOf (getD (drop 7 t) 0 0)) (drop 1 (drop 7 t))) (at + 7 + 1) (drop 1 (drop 7 t))) (badAt (at + 7))) (badAt at)
     go false b = ap badAt (add-zero at)
     go true false = refl
-    go true true = content-fate k (keyOf (take 7 t)) kind (lengthAt kind (drop 8 t)) at t ∙ rw (getD-drop 7 t 0 0, drop-drop 1 7 t, add-assoc)
+    go true true = content-fate k (rankOf (take 7 t)) kind (lengthAt kind (drop 8 t)) at t ∙ rw (getD-drop 7 t 0 0, drop-drop 1 7 t, add-assoc)
 
 fromCounted : Front → ℕ → List ℕ → Fate
 fromCounted none at t = badAt at
@@ -96,12 +96,12 @@ fromCounted (found n w) at t = fate (readRecords n 0 (at + w) (drop w t))
 resumed : Due → ℕ → List ℕ → Fate
 resumed countDue at t = fromCounted (limited countLimit (frontOf t)) at t
 resumed (addressDue k least) at t = fromAddress k least at t
-resumed (kindDue k key) at t = fromKind k key at t
-resumed (lengthDue k key kind) at t = fromMeasured k key kind (lengthAt kind t) at t
-resumed (contentDue k key kind n) at t = fromContent k key kind n at t
+resumed (kindDue k rank) at t = fromKind k rank at t
+resumed (lengthDue k rank kind) at t = fromMeasured k rank kind (lengthAt kind t) at t
+resumed (contentDue k rank kind n) at t = fromContent k rank kind n at t
 resumed restDue at t = fate (readRecords 0 0 at t)
 
--- the records that are due are those that are read, whatever the least key where there are none
+-- the records that are due are those that are read, whatever the least rank where there are none
 records-resumed : (k least at : ℕ) (t : List ℕ) → fate (readRecords k least at t) ≡ resumed (recordsDue k least) at t
 unfolding resumed recordsDue readRecords
 records-resumed zero least at [] = refl
@@ -126,20 +126,20 @@ resumed-on countDue at w t next e = go (limited countLimit (frontOf t)) e
 resumed-on (addressDue k least) at w t next e =
     let g = good-step (goodAddress least t) w 7 _ next e in
     rw (g .0, ← g .1, ← g .2)
-resumed-on (kindDue k key) at w t next e =
+resumed-on (kindDue k rank) at w t next e =
     let g = good-step (goodKind t) w 1 _ next e in
     rw (g .0, ← g .1, ← g .2)
-resumed-on (lengthDue k key kind) at w t next e = go (lengthAt kind t) e
+resumed-on (lengthDue k rank kind) at w t next e = go (lengthAt kind t) e
   where
-    go : (f : Front) → measured k key kind f ≡ goodItem w next → fromMeasured k key kind f at t ≡ resumed next (at + w) (drop w t)
+    go : (f : Front) → measured k rank kind f ≡ goodItem w next → fromMeasured k rank kind f at t ≡ resumed next (at + w) (drop w t)
     go none r = let z : _≡_ {A = ℕ} 0 1 = cc in let y : ⊥ = omega arith in absurd y
     go (found n v) r =
         let p : v ≡ w = cc in
-        let q : contentDue k key kind n ≡ next = cc in
+        let q : contentDue k rank kind n ≡ next = cc in
         rw (← q, ← p)
-resumed-on (contentDue k key kind n) at w t next e =
+resumed-on (contentDue k rank kind n) at w t next e =
     let g = good-step (goodContent kind n t) w n _ next e in
-    rw (g .0, ← g .1, ← g .2) (records-resumed k (suc key) (at + n) (drop n t))
+    rw (g .0, ← g .1, ← g .2) (records-resumed k (suc rank) (at + n) (drop n t))
 resumed-on restDue at w [] next e = let z : _≡_ {A = ℕ} 0 1 = cc in let y : ⊥ = omega arith in absurd y
 resumed-on restDue at w (o ∷ t) next e = let z : _≡_ {A = ℕ} 0 1 = cc in let y : ⊥ = omega arith in absurd y
 
@@ -160,13 +160,13 @@ resumed-bad countDue at t e = go (limited countLimit (frontOf t)) e
     go none r = refl
     go (found n v) r = let z : _≡_ {A = ℕ} 0 1 = cc in let y : ⊥ = omega arith in absurd y
 resumed-bad (addressDue k least) at t e = rw (bad-step (goodAddress least t) _ _ e)
-resumed-bad (kindDue k key) at t e = rw (bad-step (goodKind t) _ _ e)
-resumed-bad (lengthDue k key kind) at t e = go (lengthAt kind t) e
+resumed-bad (kindDue k rank) at t e = rw (bad-step (goodKind t) _ _ e)
+resumed-bad (lengthDue k rank kind) at t e = go (lengthAt kind t) e
   where
-    go : (f : Front) → measured k key kind f ≡ badItem → fromMeasured k key kind f at t ≡ badAt at
+    go : (f : Front) → measured k rank kind f ≡ badItem → fromMeasured k rank kind f at t ≡ badAt at
     go none r = refl
     go (found n v) r = let z : _≡_ {A = ℕ} 0 1 = cc in let y : ⊥ = omega arith in absurd y
-resumed-bad (contentDue k key kind n) at t e = rw (bad-step (goodContent kind n t) _ _ e)
+resumed-bad (contentDue k rank kind n) at t e = rw (bad-step (goodContent kind n t) _ _ e)
 resumed-bad restDue at [] e = let z : _≡_ {A = ℕ} 0 1 = cc in let y : ⊥ = omega arith in absurd y
 resumed-bad restDue at (o ∷ t) e = refl
 
@@ -179,50 +179,50 @@ resumed-end countDue at t e = absurd (go (limited countLimit (frontOf t)) e)
     go none r = let z : _≡_ {A = ℕ} 0 1 = cc in omega arith
     go (found n v) r = let z : _≡_ {A = ℕ} 0 1 = cc in omega arith
 resumed-end (addressDue k least) at t e = absurd (not-end (goodAddress least t) _ _ e)
-resumed-end (kindDue k key) at t e = absurd (not-end (goodKind t) _ _ e)
-resumed-end (lengthDue k key kind) at t e = absurd (go (lengthAt kind t) e)
+resumed-end (kindDue k rank) at t e = absurd (not-end (goodKind t) _ _ e)
+resumed-end (lengthDue k rank kind) at t e = absurd (go (lengthAt kind t) e)
   where
-    go : (f : Front) → measured k key kind f ≡ fileEnd → ⊥
+    go : (f : Front) → measured k rank kind f ≡ fileEnd → ⊥
     go none r = let z : _≡_ {A = ℕ} 0 1 = cc in omega arith
     go (found n v) r = let z : _≡_ {A = ℕ} 0 1 = cc in omega arith
-resumed-end (contentDue k key kind n) at t e = absurd (not-end (goodContent kind n t) _ _ e)
+resumed-end (contentDue k rank kind n) at t e = absurd (not-end (goodContent kind n t) _ _ e)
 resumed-end restDue at [] e = refl
 resumed-end restDue at (o ∷ t) e = let z : _≡_ {A = ℕ} 0 1 = cc in let y : ⊥ = omega arith in absurd y
 
 -- how many items may still come: four to a record
-rank : Due → ℕ
-rank countDue = 4 * countLimit + 1
-rank (addressDue k least) = 4 * k + 4
-rank (kindDue k key) = 4 * k + 3
-rank (lengthDue k key kind) = 4 * k + 2
-rank (contentDue k key kind n) = 4 * k + 1
-rank restDue = 0
+weight : Due → ℕ
+weight countDue = 4 * countLimit + 1
+weight (addressDue k least) = 4 * k + 4
+weight (kindDue k rank) = 4 * k + 3
+weight (lengthDue k rank kind) = 4 * k + 2
+weight (contentDue k rank kind n) = 4 * k + 1
+weight restDue = 0
 
-rank-records : (k least : ℕ) → rank (recordsDue k least) ≡ 4 * k
-unfolding rank recordsDue
-rank-records zero least = refl
-rank-records (suc k) least = omega arith
+weight-records : (k least : ℕ) → weight (recordsDue k least) ≡ 4 * k
+unfolding weight recordsDue
+weight-records zero least = refl
+weight-records (suc k) least = omega arith
 
-rank-falls : (d : Due) (t : List ℕ) (w : ℕ) (next : Due) → item d t ≡ goodItem w next → rank next < rank d
-unfolding item counted measured rank
-rank-falls countDue t w next e = go (limited countLimit (frontOf t)) refl e
+weight-falls : (d : Due) (t : List ℕ) (w : ℕ) (next : Due) → item d t ≡ goodItem w next → weight next < weight d
+unfolding item counted measured weight
+weight-falls countDue t w next e = go (limited countLimit (frontOf t)) refl e
   where
-    go : (f : Front) → limited countLimit (frontOf t) ≡ f → counted f ≡ goodItem w next → rank next < 4 * countLimit + 1
+    go : (f : Front) → limited countLimit (frontOf t) ≡ f → counted f ≡ goodItem w next → weight next < 4 * countLimit + 1
     go none q r = let z : _≡_ {A = ℕ} 0 1 = cc in let y : ⊥ = omega arith in absurd y
     go (found n v) q r =
         let p : recordsDue n 0 ≡ next = cc in
-        rw (← p) (omega (arith, rank-records n 0, within-limit countLimit (frontOf t) n v q .1))
-rank-falls (addressDue k least) t w next e = rw (← good-step (goodAddress least t) w 7 _ next e .2) (omega arith)
-rank-falls (kindDue k key) t w next e = rw (← good-step (goodKind t) w 1 _ next e .2) (omega arith)
-rank-falls (lengthDue k key kind) t w next e = go (lengthAt kind t) e
+        rw (← p) (omega (arith, weight-records n 0, within-limit countLimit (frontOf t) n v q .1))
+weight-falls (addressDue k least) t w next e = rw (← good-step (goodAddress least t) w 7 _ next e .2) (omega arith)
+weight-falls (kindDue k rank) t w next e = rw (← good-step (goodKind t) w 1 _ next e .2) (omega arith)
+weight-falls (lengthDue k rank kind) t w next e = go (lengthAt kind t) e
   where
-    go : (f : Front) → measured k key kind f ≡ goodItem w next → rank next < 4 * k + 2
+    go : (f : Front) → measured k rank kind f ≡ goodItem w next → weight next < 4 * k + 2
     go none r = let z : _≡_ {A = ℕ} 0 1 = cc in let y : ⊥ = omega arith in absurd y
-    go (found n v) r = let q : contentDue k key kind n ≡ next = cc in rw (← q) (omega arith)
-rank-falls (contentDue k key kind n) t w next e =
-    rw (← good-step (goodContent kind n t) w n _ next e .2) (omega (arith, rank-records k (suc key)))
-rank-falls restDue [] w next e = let z : _≡_ {A = ℕ} 0 1 = cc in let y : ⊥ = omega arith in absurd y
-rank-falls restDue (o ∷ t) w next e = let z : _≡_ {A = ℕ} 0 1 = cc in let y : ⊥ = omega arith in absurd y
+    go (found n v) r = let q : contentDue k rank kind n ≡ next = cc in rw (← q) (omega arith)
+weight-falls (contentDue k rank kind n) t w next e =
+    rw (← good-step (goodContent kind n t) w n _ next e .2) (omega (arith, weight-records k (suc rank)))
+weight-falls restDue [] w next e = let z : _≡_ {A = ℕ} 0 1 = cc in let y : ⊥ = omega arith in absurd y
+weight-falls restDue (o ∷ t) w next e = let z : _≡_ {A = ℕ} 0 1 = cc in let y : ⊥ = omega arith in absurd y
 
 module _ (s : List ℕ) (h : length s ≤ fileLimit) where
   first-fate : fate (readFile s) ≡ resumed countDue 0 s
@@ -252,22 +252,22 @@ module _ (s : List ℕ) (h : length s ≤ fileLimit) where
     clear : (at : ℕ) → clean ≡ badAt o → ⊥
     clear at e = let z : _≡_ {A = ℕ} 0 1 = cc in omega arith
 
-    stops : (fuel : ℕ) (d : Due) (at : ℕ) → rank d < fuel → Reached s d at → resumed d at (drop at s) ≡ badAt o → (e : Due) × Reached s e o × (item e (drop o s) ≡ badItem)
+    stops : (fuel : ℕ) (d : Due) (at : ℕ) → weight d < fuel → Reached s d at → resumed d at (drop at s) ≡ badAt o → (e : Due) × Reached s e o × (item e (drop o s) ≡ badItem)
     stops zero d at l r e = let z : ⊥ = omega arith in absurd z
     stops (suc fuel) d at l r e = go (item d (drop at s)) refl (stops fuel)
       where
-        go : (i : Step) → item d (drop at s) ≡ i → ((d : Due) (at : ℕ) → rank d < fuel → Reached s d at → resumed d at (drop at s) ≡ badAt o → (e : Due) × Reached s e o × (item e (drop o s) ≡ badItem)) → (e : Due) × Reached s e o × (item e (drop o s) ≡ badItem)
+        go : (i : Step) → item d (drop at s) ≡ i → ((d : Due) (at : ℕ) → weight d < fuel → Reached s d at → resumed d at (drop at s) ≡ badAt o → (e : Due) × Reached s e o × (item e (drop o s) ≡ badItem)) → (e : Due) × Reached s e o × (item e (drop o s) ≡ badItem)
         go badItem q ih =
             let b : badAt at ≡ badAt o = sym (resumed-bad d at (drop at s) q) ∙ e in
             let p : at ≡ o = cc in
             rw (← p) (d, r, q)
         go (goodItem w next) q ih =
-            ih next (at + w) (omega (arith, rank-falls d (drop at s) w next q)) (passed r q) (rw (← drop-drop w at s) (sym (resumed-on d at w (drop at s) next q) ∙ e))
+            ih next (at + w) (omega (arith, weight-falls d (drop at s) w next q)) (passed r q) (rw (← drop-drop w at s) (sym (resumed-on d at w (drop at s) next q) ∙ e))
         go fileEnd q ih = absurd (clear at (sym (resumed-end d at (drop at s) q) ∙ e))
 
     pub bad-reached : readFile s ≡ faulty o → (d : Due) × Reached s d o × (item d (drop o s) ≡ badItem)
     unfolding fate
-    bad-reached e = stops (suc (rank countDue)) countDue 0 (omega arith) first (sym first-fate ∙ ap fate e)
+    bad-reached e = stops (suc (weight countDue)) countDue 0 (omega arith) first (sym first-fate ∙ ap fate e)
 
 pub long-file : (s : List ℕ) → fileLimit < length s → readFile s ≡ faulty fileLimit
 unfolding readFile

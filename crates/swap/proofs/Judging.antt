@@ -1,7 +1,7 @@
 -- Each way out of the functions that judge a record's items, against the definition.
 use Prim.Native.Nat.{ℕ, _+_, _-_, _≤_, _<_}
-use mathlib.Core.Path.{_≡_, refl, sym, ap, _∙_}
-use mathlib.Core.Bool.{Bool, true, false, cond, _&&_}
+use mathlib.Core.Path.{_≡_, sym, ap, _∙_}
+use mathlib.Core.Bool.{true, false, cond, and-false}
 use mathlib.Core.List.{List}
 use native.Mathlib.Omega.{arith}
 use lib.ListN.{length, getD, take, drop, length-drop}
@@ -12,20 +12,16 @@ use Rattle.numbers.specs.Counts.{inOctets}
 use Rattle.number.specs.Groups.{found, none, frontOf}
 use Rattle.swap.specs.declared.kind.Kind.{Kind}
 use Rattle.swap.specs.declared.item.Item.the-variants.{Good, Bad}
-use Rattle.swap.specs.Record.{knownKind, kindOf, lengthLimit, acceptable, keyOf}
+use Rattle.swap.specs.Record.{knownKind, kindOf, lengthLimit, acceptable, rankOf}
 use Rattle.swap.specs.Items.{bad, good, judged, judgedContent, lengthAt, limited, goodContent, goodKind, goodAddress}
 use Rattle.swap.specs.Cursor.{placedItem, itemAt, contentAt}
 
-and-false : (b : Bool) → b && false ≡ false
-and-false true = refl
-and-false false = refl
-
 module _ (kind : Kind) (s : List ℕ) (at : ℕ) where
-  pub content-none : frontOf (drop (at + 8) s) ≡ none → Bad (at + 8) ≡ contentAt kind s at
+  pub content-none : frontOf (drop (at + 8) s) ≡ none → Bad (inOctets (at + 8)) ≡ contentAt kind s at
   unfolding contentAt placedItem judgedContent lengthAt limited
   content-none e = rw e
 
-  pub content-long : (n w : ℕ) → frontOf (drop (at + 8) s) ≡ found n w → lengthLimit kind < n → Bad (at + 8) ≡ contentAt kind s at
+  pub content-long : (n w : ℕ) → frontOf (drop (at + 8) s) ≡ found n w → lengthLimit kind < n → Bad (inOctets (at + 8)) ≡ contentAt kind s at
   unfolding contentAt placedItem judgedContent lengthAt limited
   content-long n w e h = rw (e, lt-leb n (lengthLimit kind) h)
 
@@ -38,19 +34,19 @@ module _ (kind : Kind) (s : List ℕ) (at : ℕ) where
     unfolding contentAt judgedContent lengthAt limited
     content-is = rw (e, le-leb n (lengthLimit kind) h, from-next)
 
-    content-refused : goodContent kind n (drop next s) ≡ false → Bad next ≡ contentAt kind s at
+    content-refused : goodContent kind n (drop next s) ≡ false → Bad (inOctets next) ≡ contentAt kind s at
     unfolding placedItem
     content-refused g = let q : at + (8 + w) ≡ next = omega arith in sym (content-is ∙ rw (g, q))
 
-    pub content-cut : next ≤ length s → length s - next < n → Bad next ≡ contentAt kind s at
+    pub content-cut : next ≤ length s → length s - next < n → Bad (inOctets next) ≡ contentAt kind s at
     unfolding goodContent
     content-cut a c = content-refused (rw (lt-leb n (length (drop next s)) (omega (arith, length-drop next s))))
 
-    pub content-ill : acceptable kind (take n (drop next s)) ≡ false → Bad next ≡ contentAt kind s at
+    pub content-ill : acceptable kind (take n (drop next s)) ≡ false → Bad (inOctets next) ≡ contentAt kind s at
     unfolding goodContent
     content-ill f = content-refused (rw f (and-false (leb n (length (drop next s)))))
 
-    pub content-good : next ≤ length s → n ≤ length s - next → acceptable kind (take n (drop next s)) ≡ true → Good (record { at = at; tab = getD s (at + 6) 0; kind = kind; from = next; length = inOctets n }) ≡ contentAt kind s at
+    pub content-good : next ≤ length s → n ≤ length s - next → acceptable kind (take n (drop next s)) ≡ true → Good (record { at = inOctets at; tab = getD s (at + 6) 0; kind = kind; from = inOctets next; length = inOctets n }) ≡ contentAt kind s at
     unfolding goodContent placedItem
     content-good a c f =
         let q : at + 8 + w ≡ next = omega arith in
@@ -58,36 +54,36 @@ module _ (kind : Kind) (s : List ℕ) (at : ℕ) where
 
 -- t is the part of the file from the record's start on
 module _ (least : ℕ) (s : List ℕ) (at : ℕ) (t : List ℕ) (part : t ≡ drop at s) where
-  item-refused : (o : ℕ) → judged least t ≡ bad o → Bad (at + o) ≡ itemAt least s at
+  item-refused : (o : ℕ) → judged least t ≡ bad o → Bad (inOctets (at + o)) ≡ itemAt least s at
   unfolding itemAt placedItem
   item-refused o e = rw (← part, e)
 
-  address-refused : goodAddress least t ≡ false → Bad at ≡ itemAt least s at
+  address-refused : goodAddress least t ≡ false → Bad (inOctets at) ≡ itemAt least s at
   unfolding judged
-  address-refused g = let z : at ≡ at + 0 = omega arith in ap Bad z ∙ item-refused 0 (rw g)
+  address-refused g = let z : at ≡ at + 0 = omega arith in ap (λ (n : ℕ). Bad (inOctets n)) z ∙ item-refused 0 (rw g)
 
-  pub item-cut : length t < 7 → Bad at ≡ itemAt least s at
+  pub item-cut : length t < 7 → Bad (inOctets at) ≡ itemAt least s at
   unfolding goodAddress
   item-cut h = address-refused (rw (lt-leb 7 (length t) h))
 
-  pub item-low : keyOf (take 7 t) < least → Bad at ≡ itemAt least s at
+  pub item-low : rankOf (take 7 t) < least → Bad (inOctets at) ≡ itemAt least s at
   unfolding goodAddress
-  item-low h = address-refused (rw (lt-leb least (keyOf (take 7 t)) h) (and-false (leb 7 (length t))))
+  item-low h = address-refused (rw (lt-leb least (rankOf (take 7 t)) h) (and-false (leb 7 (length t))))
 
-  module _ (long : 7 ≤ length t) (high : least ≤ keyOf (take 7 t)) where
+  module _ (long : 7 ≤ length t) (high : least ≤ rankOf (take 7 t)) where
     address-good : goodAddress least t ≡ true
     unfolding goodAddress
-    address-good = rw (le-leb 7 (length t) long, le-leb least (keyOf (take 7 t)) high)
+    address-good = rw (le-leb 7 (length t) long, le-leb least (rankOf (take 7 t)) high)
 
-    kind-refused : goodKind (drop 7 t) ≡ false → Bad (at + 7) ≡ itemAt least s at
+    kind-refused : goodKind (drop 7 t) ≡ false → Bad (inOctets (at + 7)) ≡ itemAt least s at
     unfolding judged
     kind-refused g = item-refused 7 (rw (address-good, g))
 
-    pub item-short : length t < 8 → Bad (at + 7) ≡ itemAt least s at
+    pub item-short : length t < 8 → Bad (inOctets (at + 7)) ≡ itemAt least s at
     unfolding goodKind
     item-short h = kind-refused (rw (le-ltb 0 (length (drop 7 t)) (omega (arith, length-drop 7 t))))
 
-    pub item-unknown : knownKind (getD t 7 0) ≡ false → Bad (at + 7) ≡ itemAt least s at
+    pub item-unknown : knownKind (getD t 7 0) ≡ false → Bad (inOctets (at + 7)) ≡ itemAt least s at
     unfolding goodKind
     item-unknown h = kind-refused (rw (getD-drop 7 t 0 0, h) (and-false (ltb 0 (length (drop 7 t)))))
 

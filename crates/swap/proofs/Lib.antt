@@ -1,12 +1,14 @@
 pub mod Encoded
 pub mod Faults
-pub mod Keys
+pub mod Ranks
 pub mod KindOctets
 mod Cursors
 pub mod Parts
 mod Judging
 pub mod RoundTrip
+mod Searching
 pub mod Shown
+pub mod Stations
 pub mod Tally
 mod Texts
 pub mod Verdicts

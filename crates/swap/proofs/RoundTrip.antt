@@ -13,13 +13,13 @@ use Rattle.numbers.specs.Answer.{given}
 use Rattle.number.specs.Groups.{Front, found, none, encoded, frontOf}
 use Rattle.number.proofs.Fronts.{encoded-front}
 use Rattle.number.proofs.Forms.{front-form, own-form}
-use Rattle.swap.specs.Record.{Record, Sound, OfOctets, Each, Rising, key, keyOf, countLimit, fileLimit}
+use Rattle.swap.specs.Record.{Record, Sound, OfOctets, Each, Rising, rank, rankOf, countLimit, fileLimit}
 use Rattle.swap.specs.Encoding.{recordOctets, recordsOctets, encode, Within}
 use Rattle.swap.specs.Items.{Judged, bad, good, judged, recordAt, limited}
 use Rattle.swap.specs.declared.file.Records.{Records}
 use Rattle.swap.specs.Reading.{Outcome, faulty, listed, preceded, readRecords, readCounted, readFile, answered, verdictOf, inRecords}
 use Rattle.swap.proofs.Shown.{shown, shown-good, within-limit}
-use Rattle.swap.proofs.Encoded.{record-shown, record-front, from-rest, key-front, key-shown, shown-sound, shown-octets, own-length, own-sound}
+use Rattle.swap.proofs.Encoded.{record-shown, record-front, from-rest, rank-front, rank-shown, shown-sound, shown-octets, own-length, own-sound}
 use Rattle.swap.proofs.Tally.{records-bad, records-good}
 use Rattle.swap.proofs.Verdicts.{not-listed, accepted}
 
@@ -40,9 +40,9 @@ listed-records (suc k) least at t rs b e = go (judged least t) refl (listed-reco
   where
     go : (j : Judged) → judged least t ≡ j → ((least at : ℕ) (t : List ℕ) (rs : List Record) → ((i : ℕ) → getD t i 0 < 256) → readRecords k least at t ≡ listed rs → Listed k least t rs) → Listed (suc k) least t rs
     go (bad o) q ih = absurd (not-listed (at + o) rs (rw (q, readRecords) at e))
-    go (good w n) q ih = next (readRecords k (suc (keyOf (take 7 t))) (at + (8 + w + n)) (drop (8 + w + n) t)) refl (sym (records-good k least at t w n q) ∙ e)
+    go (good w n) q ih = next (readRecords k (suc (rankOf (take 7 t))) (at + (8 + w + n)) (drop (8 + w + n) t)) refl (sym (records-good k least at t w n q) ∙ e)
       where
-        next : (out : Outcome) → readRecords k (suc (keyOf (take 7 t))) (at + (8 + w + n)) (drop (8 + w + n) t) ≡ out → preceded (recordAt w n t) out ≡ listed rs → Listed (suc k) least t rs
+        next : (out : Outcome) → readRecords k (suc (rankOf (take 7 t))) (at + (8 + w + n)) (drop (8 + w + n) t) ≡ out → preceded (recordAt w n t) out ≡ listed rs → Listed (suc k) least t rs
         next (faulty o) p r = absurd (not-listed o rs r)
         next (listed more) p r =
             let h = shown least t w n q in
@@ -53,7 +53,7 @@ listed-records (suc k) least at t rs b e = go (judged least t) refl (listed-reco
               octets = shown-octets least t w n h b ∙ ap (λ (u : List ℕ). recordOctets (recordAt w n t) ++ u) (s .octets);
               count = ap suc (s .count);
               sound = Each.more (shown-sound least t w n h b) (s .sound);
-              rising = Rising.more {least = least} {r = recordAt w n t} {rs = more} (rw (key-shown least t w n h b) (h .high)) (rw (key-shown least t w n h b) (s .rising));
+              rising = Rising.more {least = least} {r = recordAt w n t} {rs = more} (rw (rank-shown least t w n h b) (h .high)) (rw (rank-shown least t w n h b) (s .rising));
             })
 
 -- sound and rising records are read from their octets
@@ -65,7 +65,7 @@ records-listed least at (Each.more {r = r} {rs = rs} p s) (Rising.more h q) =
     let w = length (encoded n) in
     let t = recordOctets r ++ recordsOctets rs in
     records-good (length rs) least at t w n (shown-good least t w n (record-shown r (recordsOctets rs) t (p .address) refl p least h))
-    ∙ rw (record-front r (recordsOctets rs) t (p .address) refl, from-rest r (recordsOctets rs) t (p .address) refl, key-front r (recordsOctets rs) t (p .address) refl, records-listed (suc (key r)) (at + (8 + w + n)) s q)
+    ∙ rw (record-front r (recordsOctets rs) t (p .address) refl, from-rest r (recordsOctets rs) t (p .address) refl, rank-front r (recordsOctets rs) t (p .address) refl, records-listed (suc (rank r)) (at + (8 + w + n)) s q)
 
 -- the records read from an accepted file are within all rules, and written give the same octets
 pub read-encode : (s : List ℕ) (rs : List Record) → ((i : ℕ) → getD s i 0 < 256) → readFile s ≡ listed rs → (s ≡ encode rs) × Within rs
@@ -142,17 +142,17 @@ own-records least at rs (Each.more {r = p} {rs = ps} o s) e = go (judged least t
 
     go : (j : Judged) → judged least t ≡ j → ((least at : ℕ) (rs : List Record) → readRecords (length ps) least at (recordsOctets ps) ≡ listed rs → Own least ps rs) → Own least (p ∷ ps) rs
     go (bad b) q ih = absurd (not-listed (at + b) rs (sym (records-bad (length ps) least at t b q) ∙ e))
-    go (good w n) q ih = next (readRecords (length ps) (suc (keyOf (take 7 t))) (at + (8 + w + n)) (drop (8 + w + n) t)) refl (sym (records-good (length ps) least at t w n q) ∙ e)
+    go (good w n) q ih = next (readRecords (length ps) (suc (rankOf (take 7 t))) (at + (8 + w + n)) (drop (8 + w + n) t)) refl (sym (records-good (length ps) least at t w n q) ∙ e)
       where
-        next : (out : Outcome) → readRecords (length ps) (suc (keyOf (take 7 t))) (at + (8 + w + n)) (drop (8 + w + n) t) ≡ out → preceded (recordAt w n t) out ≡ listed rs → Own least (p ∷ ps) rs
+        next : (out : Outcome) → readRecords (length ps) (suc (rankOf (take 7 t))) (at + (8 + w + n)) (drop (8 + w + n) t) ≡ out → preceded (recordAt w n t) out ≡ listed rs → Own least (p ∷ ps) rs
         next (faulty b) x r = absurd (not-listed b rs r)
         next (listed qs) x r =
             let h = shown least t w n q in
             let l = own-length p (recordsOctets ps) t (o .address) refl least w n h in
-            let k : keyOf (take 7 t) ≡ key p = key-front p (recordsOctets ps) t (o .address) refl in
+            let k : rankOf (take 7 t) ≡ rank p = rank-front p (recordsOctets ps) t (o .address) refl in
             let d : drop (8 + w + n) t ≡ recordsOctets ps = rw (← l .0, ← l .1) (from-rest p (recordsOctets ps) t (o .address) refl) in
             let f : recordAt w n t ≡ p = rw (← l .0, ← l .1) (record-front p (recordsOctets ps) t (o .address) refl) in
-            let m = ih (suc (key p)) (at + (8 + w + n)) qs (rw (d, k) at x) in
+            let m = ih (suc (rank p)) (at + (8 + w + n)) qs (rw (d, k) at x) in
             let a : recordAt w n t ∷ qs ≡ rs = cc in
             record {
               same = rw (m .same, ← f) a;

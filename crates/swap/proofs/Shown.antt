@@ -11,12 +11,12 @@ use borrow.Author.Tests.{lt-ltb, le-leb, leb-true}
 use Rattle.number.specs.Groups.{Front, found, none, frontOf}
 use Rattle.number.proofs.Fronts.{front-within}
 use Rattle.swap.specs.declared.kind.Kind.{Kind}
-use Rattle.swap.specs.Record.{knownKind, kindOf, lengthLimit, acceptable, keyOf}
+use Rattle.swap.specs.Record.{knownKind, kindOf, lengthLimit, acceptable, rankOf}
 use Rattle.swap.specs.Items.{Judged, bad, good, judged, judgedContent, lengthAt, limited, goodContent, goodKind, goodAddress}
 
 -- the items of a good record at the front of t: its length takes w octets and is n
 pub record Shown (least : ℕ) (t : List ℕ) (w n : ℕ) : Type 0 where
-  pub high : least ≤ keyOf (take 7 t)
+  pub high : least ≤ rankOf (take 7 t)
   pub known : knownKind (getD t 7 0) ≡ true
   pub front : frontOf (drop 8 t) ≡ found n w
   pub short : n ≤ lengthLimit (kindOf (getD t 7 0))
@@ -58,7 +58,7 @@ unfolding judged goodAddress goodKind goodContent lengthAt
 shown least t w n e =
     let kind : Kind = kindOf (getD t 7 0) in
     let p = passed (goodAddress least t) _ 0 w n e in
-    let a = and-eq-true-iff (leb 7 (length t)) (leb least (keyOf (take 7 t))) .0 (p .0) in
+    let a = and-eq-true-iff (leb 7 (length t)) (leb least (rankOf (take 7 t))) .0 (p .0) in
     let q = passed (goodKind (drop 7 t)) _ 7 w n (p .1) in
     let k = and-eq-true-iff (ltb 0 (length (drop 7 t))) (knownKind (getD (drop 7 t) 0 0)) .0 (q .0) in
     let c = content-shown kind (lengthAt kind (drop 8 t)) (drop 8 t) w n (q .1) in
@@ -79,7 +79,7 @@ pub shown-good : (least : ℕ) (t : List ℕ) (w n : ℕ) → Shown least t w n 
 unfolding judged goodAddress goodKind goodContent lengthAt limited judgedContent
 shown-good least t w n h =
     let a : leb 7 (length t) ≡ true = le-leb 7 (length t) (omega (arith, h .fits)) in
-    let b : leb least (keyOf (take 7 t)) ≡ true = le-leb _ _ (h .high) in
+    let b : leb least (rankOf (take 7 t)) ≡ true = le-leb _ _ (h .high) in
     let c : ltb 0 (length (drop 7 t)) ≡ true = lt-ltb 0 (length (drop 7 t)) (omega (arith, h .fits, length-drop 7 t)) in
     let d : knownKind (getD (drop 7 t) 0 0) ≡ true = rw (getD-drop 7 t 0 0) (h .known) in
     let e : leb n (lengthLimit (kindOf (getD t 7 0))) ≡ true = le-leb _ _ (h .short) in

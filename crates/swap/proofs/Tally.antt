@@ -7,13 +7,14 @@ use native.Mathlib.Numerals.{add-one}
 use native.Mathlib.Omega.{arith}
 use lib.ListN.{length, getD, take, drop, length-drop, drop-of-length-le}
 use lib.Seq.{drop-drop, drop-cons}
+use Rattle.numbers.specs.declared.Octets.{Octets}
 use Rattle.numbers.specs.Counts.{inOctets}
 use Rattle.numbers.specs.Answer.{Answer, given, refusedAt}
 use Rattle.numbers.specs.Table.{faultyFile}
 use Rattle.swap.specs.declared.item.Entry.{Entry}
 use Rattle.swap.specs.declared.item.Item.the-variants.{Good, Bad}
 use Rattle.swap.specs.declared.file.Records.{Records}
-use Rattle.swap.specs.Record.{Record, keyOf, kindOf}
+use Rattle.swap.specs.Record.{Record, rankOf, kindOf}
 use Rattle.swap.specs.Items.{Judged, bad, good, judged, recordAt}
 use Rattle.swap.specs.Reading.{Outcome, faulty, listed, preceded, readRecords, inRecords, answered}
 use Rattle.swap.specs.Cursor.{placedItem, itemAt}
@@ -24,7 +25,7 @@ pub records-bad : (left least at : ℕ) (t : List ℕ) (p : ℕ) → judged leas
 unfolding readRecords
 records-bad left least at t p e = rw (e, readRecords)
 
-pub records-good : (left least at : ℕ) (t : List ℕ) (w n : ℕ) → judged least t ≡ good w n → readRecords (suc left) least at t ≡ preceded (recordAt w n t) (readRecords left (suc (keyOf (take 7 t))) (at + (8 + w + n)) (drop (8 + w + n) t))
+pub records-good : (left least at : ℕ) (t : List ℕ) (w n : ℕ) → judged least t ≡ good w n → readRecords (suc left) least at t ≡ preceded (recordAt w n t) (readRecords left (suc (rankOf (take 7 t))) (at + (8 + w + n)) (drop (8 + w + n) t))
 unfolding readRecords
 records-good left least at t w n e = rw (e, readRecords)
 
@@ -44,24 +45,24 @@ tallied-more k r (faulty o) = refl
 tallied-more k r (listed rs) = let e : k + suc (length rs) ≡ k + 1 + length rs = omega arith in rw e
 
 -- what an item placed in the file says of the octets there
-pub item-bad : (least : ℕ) (s : List ℕ) (at o : ℕ) → itemAt least s at ≡ Bad o → (p : ℕ) × (judged least (drop at s) ≡ bad p) × (o ≡ at + p)
+pub item-bad : (least : ℕ) (s : List ℕ) (at : ℕ) (o : Octets) → itemAt least s at ≡ Bad o → (p : ℕ) × (judged least (drop at s) ≡ bad p) × (o ≡ inOctets (at + p))
 unfolding itemAt placedItem
 item-bad least s at o e = go (judged least (drop at s)) refl e
   where
-    go : (j : Judged) → judged least (drop at s) ≡ j → placedItem at (kindOf (getD (drop at s) 7 0)) (drop at s) j ≡ Bad o → (p : ℕ) × (judged least (drop at s) ≡ bad p) × (o ≡ at + p)
-    go (bad p) q r = let z : at + p ≡ o = cc in (p, q, sym z)
+    go : (j : Judged) → judged least (drop at s) ≡ j → placedItem at (kindOf (getD (drop at s) 7 0)) (drop at s) j ≡ Bad o → (p : ℕ) × (judged least (drop at s) ≡ bad p) × (o ≡ inOctets (at + p))
+    go (bad p) q r = let z : inOctets (at + p) ≡ o = cc in (p, q, sym z)
     go (good w n) q r = let z : _≡_ {A = ℕ} 0 1 = cc in let y : ⊥ = omega arith in absurd y
 
-pub item-good : (least : ℕ) (s : List ℕ) (at : ℕ) (e : Entry) → itemAt least s at ≡ Good e → (w : ℕ) × (judged least (drop at s) ≡ good w (e .length .0)) × (e .from ≡ at + 8 + w)
+pub item-good : (least : ℕ) (s : List ℕ) (at : ℕ) (e : Entry) → itemAt least s at ≡ Good e → (w : ℕ) × (judged least (drop at s) ≡ good w (e .length .0)) × (e .from .0 ≡ at + 8 + w)
 unfolding itemAt placedItem
 item-good least s at e q = go (judged least (drop at s)) refl q
   where
-    go : (j : Judged) → judged least (drop at s) ≡ j → placedItem at (kindOf (getD (drop at s) 7 0)) (drop at s) j ≡ Good e → (w : ℕ) × (judged least (drop at s) ≡ good w (e .length .0)) × (e .from ≡ at + 8 + w)
+    go : (j : Judged) → judged least (drop at s) ≡ j → placedItem at (kindOf (getD (drop at s) 7 0)) (drop at s) j ≡ Good e → (w : ℕ) × (judged least (drop at s) ≡ good w (e .length .0)) × (e .from .0 ≡ at + 8 + w)
     go (bad p) q r = let z : _≡_ {A = ℕ} 0 1 = cc in let y : ⊥ = omega arith in absurd y
     go (good w n) q r =
-        let z : record { at = at; tab = getD (drop at s) 6 0; kind = kindOf (getD (drop at s) 7 0); from = at + 8 + w; length = inOctets n } ≡ e = cc in
+        let z : record { at = inOctets at; tab = getD (drop at s) 6 0; kind = kindOf (getD (drop at s) 7 0); from = inOctets (at + 8 + w); length = inOctets n } ≡ e = cc in
         let m : n ≡ e .length .0 = ap (λ (x : Entry). x .length .0) z in
-        let f : at + 8 + w ≡ e .from = ap (λ (x : Entry). x .from) z in
+        let f : at + 8 + w ≡ e .from .0 = ap (λ (x : Entry). x .from .0) z in
         (w, q ∙ rw m, sym f)
 
 -- where the loop stands: the verdict that it is to give is v
@@ -76,7 +77,7 @@ tally-start s count start h =
     record { counted = omega arith; within = h; due = rw z (sym (tallied-none (readRecords count 0 start (drop start s)))) }
 
 -- a bad item ends it
-pub tally-bad : (s : List ℕ) (count : ℕ) (v : Answer Records) (at left least o : ℕ) → Tallied s count v at left least → 0 < left → itemAt least s at ≡ Bad o → refusedAt faultyFile (inOctets o) ≡ v
+pub tally-bad : (s : List ℕ) (count : ℕ) (v : Answer Records) (at left least : ℕ) (o : Octets) → Tallied s count v at left least → 0 < left → itemAt least s at ≡ Bad o → refusedAt faultyFile o ≡ v
 unfolding tallied
 tally-bad s count v at zero least o t h e = let z : ⊥ = omega arith in absurd z
 tally-bad s count v at (suc left) least o t h e =
@@ -84,7 +85,7 @@ tally-bad s count v at (suc left) least o t h e =
     sym (t .due ∙ rw (records-bad left least at (drop at s) (b .0) (b .1), ← b .2))
 
 -- a good one leads to the next record
-pub tally-good : (s : List ℕ) (count : ℕ) (v : Answer Records) (at left least : ℕ) (e : Entry) → Tallied s count v at left least → 0 < left → itemAt least s at ≡ Good e → Tallied s count v (e .from + e .length .0) (left - 1) (keyOf (take 7 (drop at s)) + 1)
+pub tally-good : (s : List ℕ) (count : ℕ) (v : Answer Records) (at left least : ℕ) (e : Entry) → Tallied s count v at left least → 0 < left → itemAt least s at ≡ Good e → Tallied s count v (e .from .0 + e .length .0) (left - 1) (rankOf (take 7 (drop at s)) + 1)
 tally-good s count v at zero least e t h q = let z : ⊥ = omega arith in absurd z
 tally-good s count v at (suc left) least e t h q =
     let g = item-good least s at e q in
@@ -93,7 +94,7 @@ tally-good s count v at (suc left) least e t h q =
     let f : 8 + w + n ≤ length (drop at s) = shown least (drop at s) w n (g .1) .fits in
     let l : suc left - 1 ≡ left = omega arith in
     let k : count - suc left + 1 ≡ count - left = omega (arith, t .counted) in
-    let p : at + (8 + w + n) ≡ e .from + n = omega (arith, g .2) in
+    let p : at + (8 + w + n) ≡ e .from .0 + n = omega (arith, g .2) in
     record {
       counted = omega (arith, t .counted);
       within = omega (arith, g .2, f, length-drop at s, t .within);

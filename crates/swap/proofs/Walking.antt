@@ -1,6 +1,6 @@
--- The cursor of an accepted file gives its records in order, each with its own ADS, TAB, kind and data, and then the end.
-use Prim.Native.Nat.{ℕ, suc, _+_, _-_, _≤_, _<_}
-use mathlib.Core.Path.{_≡_, refl, sym, subst}
+-- From the cursor that starting on a file gives, the file's records come in order, each with its own ADS, TAB, kind and data, and then the end.
+use Prim.Native.Nat.{ℕ, zero, suc, _+_, _-_, _≤_, _<_}
+use mathlib.Core.Path.{_≡_, refl, ap, subst}
 use mathlib.Core.List.{List, [], _∷_, _++_, append-assoc, append-nil}
 use native.Mathlib.Nat.{add-assoc}
 use native.Mathlib.Omega.{arith}
@@ -8,18 +8,44 @@ use lib.ListN.{length, getD, drop, length-append, length-drop}
 use lib.Seq.{drop-drop, drop-at, drop-append-add, take-at}
 use borrow.Author.Tests.{eq-eqb, ne-eqb, le-leb}
 use Rattle.numbers.specs.Counts.{inOctets}
-use Rattle.numbers.specs.Answer.{given}
+use Rattle.numbers.specs.Answer.{given, refused}
+use Rattle.numbers.specs.Table.{faultyFile}
 use Rattle.number.specs.Groups.{encoded}
-use Rattle.number.proofs.Forms.{front-form}
 use Rattle.swap.specs.declared.item.Entry.{Entry}
-use Rattle.swap.specs.declared.item.Item.the-variants.{Good}
+use Rattle.swap.specs.declared.item.Item.{Item}
+use Rattle.swap.specs.declared.item.Item.the-variants.{Good, Bad}
 use Rattle.swap.specs.Record.{Record, Sound, Each, kindOf}
 use Rattle.swap.specs.Encoding.{recordOctets, recordsOctets, encode, Within}
-use Rattle.swap.specs.Reading.{verdictOf, inRecords}
-use Rattle.swap.specs.Cursor.{placedItem, itemAt, startOf, startAfter, fileEnd, nextAt, followed, adsOf, contentOf, cursorAfter, Gives, GivesAll, ended, further}
-use Rattle.swap.proofs.RoundTrip.{accepted-encoding}
+use Rattle.swap.specs.Reading.{Outcome, faulty, listed, readFile, inRecords}
+use Rattle.swap.specs.declared.cursor.Cursor.{Cursor}
+use Rattle.swap.specs.Cursor.{placedItem, itemAt, startOf, started, Standing, recordHere, fileEnd, nextAt, followed, adsOf, contentOf, cursorAfter, Led, begun, moved, Gives, GivesAll, ended, further}
+use Rattle.swap.proofs.RoundTrip.{read-encode}
 use Rattle.swap.proofs.Shown.{shown-good}
 use Rattle.swap.proofs.Encoded.{record-shown, ads-front, tab-next, kind-next, from-content, long-enough}
+
+-- a record stands only where some are left, and after it is one less
+pub next-left : (s : List ℕ) (c : Cursor) (e : Entry) (after : Cursor) → nextAt s c ≡ given (recordHere e after) → c .left .0 ≡ suc (after .left .0)
+unfolding nextAt followed
+next-left s c e after h = go (c .left .0) refl (itemAt 0 s (c .at .0)) refl
+  where
+    go : (l : ℕ) → c .left .0 ≡ l → (i : Item) → itemAt 0 s (c .at .0) ≡ i → c .left .0 ≡ suc (after .left .0)
+    go zero p i q =
+        let r : given fileEnd ≡ given (recordHere e after) = rw (eq-eqb (c .left .0) 0 p) at h in
+        let z : _≡_ {A = ℕ} 0 1 = cc in
+        let y : ⊥ = omega arith in
+        absurd y
+    go (suc l) p (Bad o) q =
+        let m : c .left .0 ≡ 0 → ⊥ = λ w. omega arith in
+        let r : refused faultyFile ≡ given (recordHere e after) = rw (ne-eqb (c .left .0) 0 m, q) at h in
+        let z : _≡_ {A = ℕ} 0 1 = cc in
+        let y : ⊥ = omega arith in
+        absurd y
+    go (suc l) p (Good g) q =
+        let m : c .left .0 ≡ 0 → ⊥ = λ w. omega arith in
+        let r : given (recordHere g (record { at = inOctets (g .from .0 + g .length .0); left = inRecords (c .left .0 - 1) })) ≡ given (recordHere e after) = rw (ne-eqb (c .left .0) 0 m, q) at h in
+        let a : record { at = inOctets (g .from .0 + g .length .0); left = inRecords (c .left .0 - 1) } ≡ after = cc in
+        let d : c .left .0 - 1 ≡ after .left .0 = ap (λ (k : Cursor). k .left .0) a in
+        omega arith
 
 pub octets-append : (ps qs : List Record) → recordsOctets (ps ++ qs) ≡ recordsOctets ps ++ recordsOctets qs
 unfolding recordsOctets
@@ -30,23 +56,15 @@ each-at : {P : Record → Type 0} (ps : List Record) (r : Record) (qs : List Rec
 each-at [] r qs (Each.more p s) = p
 each-at (q ∷ ps) r qs (Each.more p s) = each-at ps r qs s
 
--- the first record stands after the count
-start-first : (rs : List Record) → Within rs → startOf (encode rs) ≡ cursorAfter (length rs) []
-unfolding startOf startAfter encode cursorAfter recordsOctets
-start-first rs h =
-    let c : length (encoded (length rs)) + 0 ≡ length (encoded (length rs)) = omega arith in
-    let d : length rs - 0 ≡ length rs = omega arith in
-    rw (front-form (length rs) (recordsOctets rs) (omega (arith, h .few)), c, d)
-
--- and after the last one is the end
-next-last : (s : List ℕ) (rs : List Record) → nextAt s (cursorAfter (length rs) rs) ≡ fileEnd
+-- after the last record is the end
+next-last : (s : List ℕ) (rs : List Record) → nextAt s (cursorAfter (length rs) rs) ≡ given fileEnd
 unfolding nextAt cursorAfter
 next-last s rs = rw (eq-eqb (length rs - length rs) 0 (omega arith))
 
 -- a record's octets stand in s from an offset on
 module _ (s : List ℕ) (at : ℕ) (r : Record) (rest : List ℕ) (sound : Sound r) (is : drop at s ≡ recordOctets r ++ rest) where
   abbrev placed : Entry
-  placed = record { at = at; tab = r .tab; kind = kindOf (r .kind); from = at + 8 + length (encoded (length (r .content))); length = inOctets (length (r .content)) }
+  placed = record { at = inOctets at; tab = r .tab; kind = kindOf (r .kind); from = inOctets (at + 8 + length (encoded (length (r .content)))); length = inOctets (length (r .content)) }
 
   item-placed : itemAt 0 s at ≡ Good placed
   unfolding itemAt placedItem
@@ -66,7 +84,7 @@ module _ (s : List ℕ) (at : ℕ) (r : Record) (rest : List ℕ) (sound : Sound
       let e : drop (at + 8 + length (encoded (length (r .content)))) s ≡ r .content ++ rest = rw (add-assoc, ← drop-drop) (from-content r rest (drop at s) (sound .address) is) in
       rw (le-leb (at + 8 + length (encoded (length (r .content))) + length (r .content)) (length s) room, e) (take-at (r .content) rest _ refl)
 
-  next-placed : (left : ℕ) → 0 < left → Gives s (record { at = at; left = inRecords left }) r (record { at = at + 8 + length (encoded (length (r .content))) + length (r .content); left = inRecords (left - 1) })
+  next-placed : (left : ℕ) → 0 < left → Gives s (record { at = inOctets at; left = inRecords left }) r (record { at = inOctets (at + 8 + length (encoded (length (r .content))) + length (r .content)); left = inRecords (left - 1) })
   unfolding nextAt followed
   next-placed left h =
       record {
@@ -109,11 +127,38 @@ rest ps (r ∷ qs) h =
     further (next-in-turn ps r qs h) (rw e at (rest (ps ++ r ∷ []) qs (rw e h)))
 
 -- over the encoding of records within all rules
-pub encoding-gives-all : (rs : List Record) → Within rs → GivesAll (encode rs) (startOf (encode rs)) rs
-encoding-gives-all rs h = rw (start-first rs h) (rest [] rs h)
+pub encoding-gives-all : (rs : List Record) → Within rs → GivesAll (encode rs) (cursorAfter (length rs) []) rs
+encoding-gives-all rs h = rest [] rs h
 
--- over any file that the reader accepts
-pub accepted-gives-all : (s : List ℕ) (n : ℕ) → ((i : ℕ) → getD s i 0 < 256) → verdictOf s ≡ given (inRecords n) → (rs : List Record) × (s ≡ encode rs) × (length rs ≡ n) × GivesAll s (startOf s) rs
-accepted-gives-all s n octets e =
-    let f = accepted-encoding s n octets e in
-    (f .0, f .1, f .3, subst (λ (t : List ℕ). GivesAll t (startOf t) (f .0)) (sym (f .1)) (encoding-gives-all (f .0) (f .2)))
+-- from the start of any file that was judged
+pub started-gives-all : (s : List ℕ) (c : Cursor) → ((i : ℕ) → getD s i 0 < 256) → startOf s ≡ given c → (rs : List Record) × (readFile s ≡ listed rs) × GivesAll s c rs
+unfolding startOf
+started-gives-all s c octets e = go (readFile s) refl e
+  where
+    go : (out : Outcome) → readFile s ≡ out → started out ≡ given c → (rs : List Record) × (readFile s ≡ listed rs) × GivesAll s c rs
+    go (faulty o) q r = let z : _≡_ {A = ℕ} 0 1 = cc in let y : ⊥ = omega arith in absurd y
+    go (listed rs) q r =
+        let p : cursorAfter (length rs) [] ≡ c = cc in
+        let f = read-encode s rs octets q in
+        (rs, q, rw (f .0, ← p) (encoding-gives-all rs (f .1)))
+
+-- a record at a cursor leads to the rest of what the cursor gives
+onward : {s : List ℕ} {c after : Cursor} {e : Entry} {rs : List Record} → GivesAll s c rs → nextAt s c ≡ given (recordHere e after) → (qs : List Record) × GivesAll s after qs
+onward (ended p) q = let z : _≡_ {A = ℕ} 0 1 = cc in let y : ⊥ = omega arith in absurd y
+onward {s = s} {after = after} (further {after = then} {rs = rs} g m) q =
+    let h = g .here in
+    let p : then ≡ after = cc in
+    (rs, subst (λ (d : Cursor). GivesAll s d rs) p m)
+
+-- the cursors that start and `next` lead to give what is left of the records
+pub led-gives-all : (s : List ℕ) {c : Cursor} → ((i : ℕ) → getD s i 0 < 256) → Led s c → (rs : List Record) × GivesAll s c rs
+led-gives-all s {c} octets (begun e) = let f = started-gives-all s c octets e in (f .0, f .2)
+led-gives-all s octets (moved led e) = onward (led-gives-all s octets led .1) e
+
+-- so that `next` is never refused on a judged file: it gives a record or the end
+pub led-next : (s : List ℕ) {c : Cursor} → ((i : ℕ) → getD s i 0 < 256) → Led s c → (standing : Standing) × (nextAt s c ≡ given standing)
+led-next s octets led = go (led-gives-all s octets led .1)
+  where
+    go : {c : Cursor} {rs : List Record} → GivesAll s c rs → (standing : Standing) × (nextAt s c ≡ given standing)
+    go (ended e) = (fileEnd, e)
+    go (further {after = after} g m) = (recordHere (g .entry) after, g .here)

@@ -6,10 +6,10 @@ use mathlib.Core.List.{List, [], _∷_}
 use lib.ListN.{getD, take, drop}
 use Rattle.number.specs.Groups.{Front, found, none, frontOf}
 use Rattle.swap.specs.declared.kind.Kind.{Kind}
-use Rattle.swap.specs.Record.{kindOf, keyOf, countLimit}
+use Rattle.swap.specs.Record.{kindOf, rankOf, countLimit}
 use Rattle.swap.specs.Items.{goodAddress, goodKind, goodContent, lengthAt, limited}
 
--- the item that is due, with what the items before it told: how many records follow this one, the least key or this record's, its kind, its length
+-- the item that is due, with what the items before it told: how many records follow this one, the least rank or this record's, its kind, its length
 pub data Due : Type 0 where
   countDue : Due
   addressDue : ℕ → ℕ → Due
@@ -24,7 +24,7 @@ pub data Step : Type 0 where
   goodItem : ℕ → Due → Step
   fileEnd : Step
 
--- so many records more, from a least key on
+-- so many records more, from a least rank on
 unfoldable pub recordsDue : ℕ → ℕ → Due
 recordsDue zero least = restDue
 recordsDue (suc k) least = addressDue k least
@@ -34,16 +34,16 @@ counted none = badItem
 counted (found n w) = goodItem w (recordsDue n 0)
 
 unfoldable pub measured : ℕ → ℕ → Kind → Front → Step
-measured k key kind none = badItem
-measured k key kind (found n w) = goodItem w (contentDue k key kind n)
+measured k rank kind none = badItem
+measured k rank kind (found n w) = goodItem w (contentDue k rank kind n)
 
 -- the item that is due, at the front of s
 unfoldable pub item : Due → List ℕ → Step
 item countDue s = counted (limited countLimit (frontOf s))
-item (addressDue k least) s = cond (goodAddress least s) (goodItem 7 (kindDue k (keyOf (take 7 s)))) badItem
-item (kindDue k key) s = cond (goodKind s) (goodItem 1 (lengthDue k key (kindOf (getD s 0 0)))) badItem
-item (lengthDue k key kind) s = measured k key kind (lengthAt kind s)
-item (contentDue k key kind n) s = cond (goodContent kind n s) (goodItem n (recordsDue k (suc key))) badItem
+item (addressDue k least) s = cond (goodAddress least s) (goodItem 7 (kindDue k (rankOf (take 7 s)))) badItem
+item (kindDue k rank) s = cond (goodKind s) (goodItem 1 (lengthDue k rank (kindOf (getD s 0 0)))) badItem
+item (lengthDue k rank kind) s = measured k rank kind (lengthAt kind s)
+item (contentDue k rank kind n) s = cond (goodContent kind n s) (goodItem n (recordsDue k (suc rank))) badItem
 item restDue [] = fileEnd
 item restDue (o ∷ s) = badItem
 

@@ -6,11 +6,11 @@ use lib.Dec.{leb, ltb}
 use lib.ListN.{length, getD, take, drop}
 use Rattle.number.specs.Groups.{Front, found, none, frontOf}
 use Rattle.swap.specs.declared.kind.Kind.{Kind}
-use Rattle.swap.specs.Record.{Record, knownKind, kindOf, lengthLimit, acceptable, keyOf}
+use Rattle.swap.specs.Record.{Record, knownKind, kindOf, lengthLimit, acceptable, rankOf}
 
--- address with TAB: seven octets, no lower than the least key that may stand here
+-- address with TAB: seven octets, no lower than the least rank that may stand here
 unfoldable pub goodAddress : ℕ → List ℕ → Bool
-goodAddress least s = leb 7 (length s) && leb least (keyOf (take 7 s))
+goodAddress least s = leb 7 (length s) && leb least (rankOf (take 7 s))
 
 unfoldable pub goodKind : List ℕ → Bool
 goodKind s = ltb 0 (length s) && knownKind (getD s 0 0)

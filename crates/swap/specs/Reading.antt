@@ -11,7 +11,7 @@ use Rattle.number.specs.Groups.{Front, found, none, frontOf}
 use Rattle.swap.specs.declared.file.Records.{Records}
 use Rattle.swap.specs.declared.file.Verdict.{Verdict}
 use Rattle.swap.specs.declared.file.Verdict.the-variants.{Accepted, Fault}
-use Rattle.swap.specs.Record.{Record, keyOf, countLimit, fileLimit}
+use Rattle.swap.specs.Record.{Record, rankOf, countLimit, fileLimit}
 use Rattle.swap.specs.Items.{judged, bad, good, recordAt, limited}
 
 pub data Outcome : Type 0 where
@@ -29,7 +29,7 @@ readRecords zero least at (o ∷ s) = faulty at
 readRecords (suc k) least at s =
     elim (judged least s) [
       | bad o ↦ faulty (at + o)
-      | good w n ↦ preceded (recordAt w n s) (readRecords k (suc (keyOf (take 7 s))) (at + (8 + w + n)) (drop (8 + w + n) s))
+      | good w n ↦ preceded (recordAt w n s) (readRecords k (suc (rankOf (take 7 s))) (at + (8 + w + n)) (drop (8 + w + n) s))
     ]
 
 unfoldable pub readCounted : Front → List ℕ → Outcome

@@ -52,11 +52,11 @@ numberFrom n [] = n
 numberFrom n (o ∷ s) = numberFrom (n * 256 + o) s
 
 -- ADS then TAB as one number, by which records rise
-unfoldable pub keyOf : List ℕ → ℕ
-keyOf s = numberFrom 0 s
+unfoldable pub rankOf : List ℕ → ℕ
+rankOf s = numberFrom 0 s
 
-unfoldable pub key : Record → ℕ
-key r = keyOf (r .ads ++ r .tab ∷ [])
+unfoldable pub rank : Record → ℕ
+rank r = rankOf (r .ads ++ r .tab ∷ [])
 
 -- a record within the rules
 pub record Sound (r : Record) : Type 0 where
@@ -79,7 +79,7 @@ pub data Each (P : Record → Type 0) : List Record → Type 0 where
   none : Each P []
   more : {r : Record} {rs : List Record} → P r → Each P rs → Each P (r ∷ rs)
 
--- 01, Swap file: "Records rise strictly by ADS then TAB"; the first has no lower key than the least
+-- 01, Swap file: "Records rise strictly by ADS then TAB"; the first has no lower rank than the least
 pub data Rising : ℕ → List Record → Type 0 where
   none : {least : ℕ} → Rising least []
-  more : {least : ℕ} {r : Record} {rs : List Record} → least ≤ key r → Rising (suc (key r)) rs → Rising least (r ∷ rs)
+  more : {least : ℕ} {r : Record} {rs : List Record} → least ≤ rank r → Rising (suc (rank r)) rs → Rising least (r ∷ rs)

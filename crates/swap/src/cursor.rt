@@ -1,16 +1,24 @@
 // The records of a file one by one.
 ghost use mathlib.Core.Path.{_≡_};
-ghost use Rattle.swap.specs.Cursor.{startOf, answerOfNext, nextAt, adsOf, contentOf};
+ghost use Rattle.swap.specs.Cursor.{answerOfStarted, startOf, answerOfNext, nextAt, adsOf, contentOf};
 use crate::file::Records;
+use crate::file::Verdict;
+use crate::file::judge;
 use crate::item::Entry;
 use crate::item::Item;
 use crate::item::item_at;
-use number::Reading;
+use numbers::Octets;
 
 // Where the next record stands, and how many are left from there on.
 pub struct Cursor {
-    pub at: usize,
+    pub at: Octets,
     pub left: Records,
+}
+
+// What starting answers: the cursor of the first record, or the start of the first bad item of a faulty file.
+pub enum Started {
+    First(Cursor),
+    Fault(Octets),
 }
 
 // What stands at a cursor: a record with the cursor after it, the end, or no record, where the cursor is not one of this file.
@@ -20,19 +28,20 @@ pub enum Next {
     NoRecord,
 }
 
-// The cursor of the first record; a file with no count has none.
-pub fn start(file: &[u8]) -> Cursor
-    ensures { λ r. ⌜ r ≡ startOf (now (file .entry)) ⌝ }
+// Judges the whole file, so that no file is walked whose records would not all come out.
+pub fn start(file: &[u8]) -> Started
+    ensures { λ r. ⌜ answerOfStarted r ≡ startOf (now (file .entry)) ⌝ }
 {
-    let Reading::Number { value, next } = number::read(file, 0) else {
-        return Cursor {
-            at: 0,
-            left: Records(0),
-        };
-    };
-    Cursor {
-        at: next,
-        left: Records(value as usize),
+    let verdict = judge(file);
+    match verdict {
+        Verdict::Fault(offset) => Started::Fault(offset),
+        Verdict::Accepted(records) => {
+            let count = records.0;
+            Started::First(Cursor {
+                at: number::width(count as u32),
+                left: records,
+            })
+        }
     }
 }
 
@@ -41,7 +50,8 @@ impl Cursor {
     pub fn next(self, file: &[u8]) -> Next
         ensures { λ r. ⌜ answerOfNext r ≡ nextAt (now (file .entry)) self ⌝ }
     {
-        let at = self.at;
+        let place = self.at;
+        let at = place.0;
         let records = self.left;
         let left = records.0;
         if left == 0 {
@@ -54,9 +64,10 @@ impl Cursor {
         match item {
             Item::Bad(_) => Next::NoRecord,
             Item::Good(entry) => {
+                let from = entry.from;
                 let length = entry.length;
                 let after = Cursor {
-                    at: entry.from + length.0,
+                    at: Octets(from.0 + length.0),
                     left: Records(left - 1),
                 };
                 Next::Record(entry, after)
@@ -69,7 +80,8 @@ impl Cursor {
 pub fn ads(file: &[u8], entry: Entry) -> [u8; 6]
     ensures { λ r. ⌜ r ≡ adsOf (now (file .entry)) entry ⌝ }
 {
-    let at = entry.at;
+    let place = entry.at;
+    let at = place.0;
     if file.len() < at {
         return [0; 6];
     }
@@ -80,7 +92,8 @@ pub fn ads(file: &[u8], entry: Entry) -> [u8; 6]
 pub fn content(file: &[u8], entry: Entry) -> &[u8]
     ensures { λ r. ⌜ now r ≡ contentOf (now (file .entry)) entry ⌝ }
 {
-    let from = entry.from;
+    let place = entry.from;
+    let from = place.0;
     let length = entry.length;
     let count = length.0;
     if file.len() < count {

@@ -5,9 +5,14 @@ ghost use lib.ListN.{length, drop};
 ghost use Rattle.swap.specs.Reading.{answerOfVerdict, verdictOf, answered, readRecords};
 use crate::item::Item;
 use crate::item::item_at;
-use crate::item::key;
+use crate::item::rank;
 use number::Reading;
 use numbers::Octets;
+
+// The most octets that a file has.
+pub const FILE_LIMIT: usize = 65536;
+// The most records that a file has.
+pub const COUNT_LIMIT: usize = 4096;
 
 // A count of records.
 pub struct Records(pub usize);
@@ -21,16 +26,17 @@ pub enum Verdict {
 pub fn judge(file: &[u8]) -> Verdict
     ensures { λ r. ⌜ answerOfVerdict r ≡ verdictOf (now (file .entry)) ⌝ }
 {
-    if 65536 < file.len() {
-        return Verdict::Fault(Octets(65536));
+    if FILE_LIMIT < file.len() {
+        return Verdict::Fault(Octets(FILE_LIMIT));
     }
-    let Reading::Number { value, next } = number::read(file, 0) else {
+    let Reading::Number { value, next } = number::read(file, Octets(0)) else {
         return Verdict::Fault(Octets(0));
     };
-    if 4096 < value {
+    let count = value as usize;
+    if COUNT_LIMIT < count {
         return Verdict::Fault(Octets(0));
     }
-    judge_records(file, next, value as usize)
+    judge_records(file, next.0, count)
 }
 
 // So many records from an offset on, and nothing after them.
@@ -45,12 +51,13 @@ fn judge_records(file: &[u8], start: usize, count: usize) -> Verdict
         let item = item_at(file, at, least);
         match item {
             Item::Bad(offset) => {
-                return Verdict::Fault(Octets(offset));
+                return Verdict::Fault(offset);
             }
             Item::Good(entry) => {
-                least = key(&file[at..]) + 1;
+                least = rank(&file[at..]) + 1;
+                let from = entry.from;
                 let length = entry.length;
-                at = entry.from + length.0;
+                at = from.0 + length.0;
                 left -= 1;
             }
         }

@@ -3,10 +3,12 @@ use Prim.Native.Nat.{ℕ}
 use mathlib.Core.Bool.{Bool, true, false}
 use mathlib.Core.List.{List}
 use Rattle.numbers.specs.Answer.{Answer, given, refused, refusedAt}
+use Rattle.numbers.specs.Table.{none}
 use Rattle.swap.specs.declared.file.Records.{Records}
 use Rattle.swap.specs.Record.{kindOctet}
-use Rattle.swap.specs.Cursor.{Standing, recordHere, fileEnd, refusedWith, adsOf}
-use Rattle.swap_write.specs.Writing.{Writing, wrote, short, faulty}
+use Rattle.swap.specs.declared.cursor.Cursor.{Cursor}
+use Rattle.swap.specs.Cursor.{Standing, recordHere, fileEnd, adsOf}
+use Rattle.numbers.specs.declared.Octets.{Octets}
 use Rattle.swap_list.specs.declared.RecordList.{RecordList}
 use Rattle.swap_list.specs.Adding as list
 
@@ -17,9 +19,21 @@ pub record Verdict : Type 0 where
 
 -- 0 with the count of records, or 18 with the offset; the other cell as it was
 unfoldable pub judgedAs : Answer Records → ℕ → ℕ → Verdict
-judgedAs (given count) records offset = record { number = 0; records = count .0; offset = offset }
+judgedAs (given count) records offset = record { number = none; records = count .0; offset = offset }
 judgedAs (refused n) records offset = record { number = n; records = records; offset = offset }
 judgedAs (refusedAt n o) records offset = record { number = n; records = records; offset = o .0 }
+
+pub record Started : Type 0 where
+  pub number : ℕ
+  pub at : ℕ
+  pub left : ℕ
+  pub offset : ℕ
+
+-- 0 with the cursor, or 18 with the offset; the other cells as they were
+unfoldable pub startedAs : Answer Cursor → ℕ → ℕ → ℕ → Started
+startedAs (given c) at left offset = record { number = none; at = c .at .0; left = c .left .0; offset = offset }
+startedAs (refused n) at left offset = record { number = n; at = at; left = left; offset = offset }
+startedAs (refusedAt n o) at left offset = record { number = n; at = at; left = left; offset = o .0 }
 
 -- the number and the cells of a call that asks for a record: the cursor, the mark, and where the record stands
 pub record Shown : Type 0 where
@@ -39,19 +53,20 @@ nothing number b =
     record { number = number; at = b .at; left = b .left; found = false; ads = b .ads; tab = b .tab; kind = b .kind; from = b .from; length = b .length }
 
 -- a record of the file s with the cursor after it; the end is 0 with no record; at a number too only the mark changes
-unfoldable pub shown : Standing → List ℕ → Shown → Shown
-shown fileEnd s b = nothing 0 b
-shown (refusedWith n) s b = nothing n b
-shown (recordHere e after) s b =
+unfoldable pub shown : Answer Standing → List ℕ → Shown → Shown
+shown (given fileEnd) s b = nothing none b
+shown (refused n) s b = nothing n b
+shown (refusedAt n offset) s b = nothing n b
+shown (given (recordHere e after)) s b =
     record {
-      number = 0;
-      at = after .at;
+      number = none;
+      at = after .at .0;
       left = after .left .0;
       found = true;
       ads = adsOf s e;
       tab = e .tab;
       kind = kindOctet (e .kind);
-      from = e .from;
+      from = e .from .0;
       length = e .length .0;
     }
 
@@ -62,10 +77,10 @@ pub record Written : Type 0 where
   pub offset : ℕ
 
 -- 0 with the length, 18 with the offset, or 17; a cell that is not named as it was
-unfoldable pub writtenAs : Writing → List ℕ → ℕ → ℕ → Written
-writtenAs (wrote octets) buffer length offset = record { number = 0; buffer = buffer; length = octets .0; offset = offset }
-writtenAs (short n) buffer length offset = record { number = n; buffer = buffer; length = length; offset = offset }
-writtenAs (faulty n o) buffer length offset = record { number = n; buffer = buffer; length = length; offset = o .0 }
+unfoldable pub writtenAs : Answer Octets → List ℕ → ℕ → ℕ → Written
+writtenAs (given octets) buffer length offset = record { number = none; buffer = buffer; length = octets .0; offset = offset }
+writtenAs (refused n) buffer length offset = record { number = n; buffer = buffer; length = length; offset = offset }
+writtenAs (refusedAt n o) buffer length offset = record { number = n; buffer = buffer; length = length; offset = o .0 }
 
 pub record Added : Type 0 where
   pub number : ℕ
@@ -77,7 +92,7 @@ pub record Added : Type 0 where
 
 unfoldable pub countsAs : Answer RecordList → List ℕ → List ℕ → ℕ → ℕ → ℕ → Added
 countsAs (given next) heads contents records octets offset =
-    record { number = 0; heads = heads; contents = contents; records = next .records .0; octets = next .octets .0; offset = offset }
+    record { number = none; heads = heads; contents = contents; records = next .records .0; octets = next .octets .0; offset = offset }
 countsAs (refused n) heads contents records octets offset =
     record { number = n; heads = heads; contents = contents; records = records; octets = octets; offset = offset }
 countsAs (refusedAt n o) heads contents records octets offset =

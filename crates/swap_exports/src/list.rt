@@ -5,15 +5,18 @@ ghost use Rattle.swap.specs.Reading.{inRecords};
 ghost use Rattle.swap_list.specs.Adding.{recordOf, adding};
 ghost use Rattle.swap_exports.specs.Reports.{addedAs};
 use numbers::Octets;
+use numbers::table;
 use swap::Records;
 use swap_list::Added;
+use swap_list::CONTENTS_SIZE;
+use swap_list::HEADS_SIZE;
 use swap_list::RecordList;
 
 // 0 with the next list's two counts, or 18 with the offset; a refusal leaves both arrays and both counts.
 #[no_mangle]
 pub extern "C" fn propolisk_swap_add(
-    heads: &mut [u8; 40960],
-    contents: &mut [u8; 65536],
+    heads: &mut [u8; HEADS_SIZE],
+    contents: &mut [u8; CONTENTS_SIZE],
     records: &mut usize,
     octets: &mut usize,
     ads: &[u8; 6],
@@ -36,11 +39,11 @@ pub extern "C" fn propolisk_swap_add(
             let sum = next.octets;
             *records = count.0;
             *octets = sum.0;
-            0
+            table::NONE
         }
         Added::Fault(start) => {
             *offset = start.0;
-            18
+            table::FAULTY_FILE
         }
     }
 }

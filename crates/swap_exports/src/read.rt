@@ -1,12 +1,16 @@
 // Reading a file.
 ghost use mathlib.Core.Path.{_≡_};
+ghost use Rattle.numbers.specs.Counts.{inOctets};
 ghost use Rattle.swap.specs.Reading.{verdictOf, inRecords};
 ghost use Rattle.swap.specs.Cursor.{startOf, answerOfNext, nextAt};
-ghost use Rattle.swap_station.specs.Station.{nextFor};
-ghost use Rattle.swap_exports.specs.Reports.{judgedAs, shown};
+ghost use Rattle.swap.specs.Station.{nextFor};
+ghost use Rattle.swap_exports.specs.Reports.{judgedAs, startedAs, shown};
+use numbers::Octets;
+use numbers::table;
 use swap::Cursor;
 use swap::Next;
 use swap::Records;
+use swap::Started;
 use swap::Verdict;
 
 // 0 with the count of records, or 18 with the offset; the other cell is kept.
@@ -18,24 +22,39 @@ pub extern "C" fn propolisk_swap_verdict(file: &[u8], records: &mut usize, offse
     match verdict {
         Verdict::Accepted(count) => {
             *records = count.0;
-            0
+            table::NONE
         }
         Verdict::Fault(start) => {
             *offset = start.0;
-            18
+            table::FAULTY_FILE
         }
     }
 }
 
-// The cursor of the first record: its offset, and how many records are left.
+// 0 with the cursor of the first record, its offset and how many records are left, or 18 with the offset; a refusal leaves the cursor.
 #[no_mangle]
-pub extern "C" fn propolisk_swap_start(file: &[u8], at: &mut usize, left: &mut usize)
-    ensures { λ _. ⌜ record { at = now (at .exit); left = inRecords (now (left .exit)) } ≡ startOf (now (file .entry)) ⌝ }
+pub extern "C" fn propolisk_swap_start(
+    file: &[u8],
+    at: &mut usize,
+    left: &mut usize,
+    offset: &mut usize,
+) -> u8
+    ensures { λ r. ⌜ record { number = r; at = now (at .exit); left = now (left .exit); offset = now (offset .exit) } ≡ startedAs (startOf (now (file .entry))) (now (at .entry)) (now (left .entry)) (now (offset .entry)) ⌝ }
 {
-    let first = swap::cursor::start(file);
-    let records = first.left;
-    *at = first.at;
-    *left = records.0;
+    let started = swap::cursor::start(file);
+    match started {
+        Started::First(cursor) => {
+            let records = cursor.left;
+            let place = cursor.at;
+            *at = place.0;
+            *left = records.0;
+            table::NONE
+        }
+        Started::Fault(start) => {
+            *offset = start.0;
+            table::FAULTY_FILE
+        }
+    }
 }
 
 // The record at the cursor, and the cursor after it. At the end, and at a cursor that is none of this file, nothing but the mark changes.
@@ -51,10 +70,10 @@ pub extern "C" fn propolisk_swap_next(
     from: &mut usize,
     length: &mut usize,
 ) -> u8
-    ensures { λ r. ⌜ record { number = r; at = now (at .exit); left = now (left .exit); found = now (found .exit); ads = now (ads .exit); tab = now (tab .exit); kind = now (kind .exit); from = now (from .exit); length = now (length .exit) } ≡ shown (nextAt (now (file .entry)) (record { at = now (at .entry); left = inRecords (now (left .entry)) })) (now (file .entry)) (record { number = 0; at = now (at .entry); left = now (left .entry); found = now (found .entry); ads = now (ads .entry); tab = now (tab .entry); kind = now (kind .entry); from = now (from .entry); length = now (length .entry) }) ⌝ }
+    ensures { λ r. ⌜ record { number = r; at = now (at .exit); left = now (left .exit); found = now (found .exit); ads = now (ads .exit); tab = now (tab .exit); kind = now (kind .exit); from = now (from .exit); length = now (length .exit) } ≡ shown (nextAt (now (file .entry)) (record { at = inOctets (now (at .entry)); left = inRecords (now (left .entry)) })) (now (file .entry)) (record { number = 0; at = now (at .entry); left = now (left .entry); found = now (found .entry); ads = now (ads .entry); tab = now (tab .entry); kind = now (kind .entry); from = now (from .entry); length = now (length .entry) }) ⌝ }
 {
     let here = Cursor {
-        at: *at,
+        at: Octets(*at),
         left: Records(*left),
     };
     let next = here.next(file);
@@ -75,14 +94,14 @@ pub extern "C" fn propolisk_swap_next_for(
     from: &mut usize,
     length: &mut usize,
 ) -> u8
-    ensures { λ r. ⌜ record { number = r; at = now (at .exit); left = now (left .exit); found = now (found .exit); ads = now (ads .exit); tab = now (tab .exit); kind = now (kind .exit); from = now (from .exit); length = now (length .exit) } ≡ shown (nextFor (now (station .entry)) (now (file .entry)) (record { at = now (at .entry); left = inRecords (now (left .entry)) })) (now (file .entry)) (record { number = 0; at = now (at .entry); left = now (left .entry); found = now (found .entry); ads = now (ads .entry); tab = now (tab .entry); kind = now (kind .entry); from = now (from .entry); length = now (length .entry) }) ⌝ }
+    ensures { λ r. ⌜ record { number = r; at = now (at .exit); left = now (left .exit); found = now (found .exit); ads = now (ads .exit); tab = now (tab .exit); kind = now (kind .exit); from = now (from .exit); length = now (length .exit) } ≡ shown (nextFor (now (station .entry)) (now (file .entry)) (record { at = inOctets (now (at .entry)); left = inRecords (now (left .entry)) })) (now (file .entry)) (record { number = 0; at = now (at .entry); left = now (left .entry); found = now (found .entry); ads = now (ads .entry); tab = now (tab .entry); kind = now (kind .entry); from = now (from .entry); length = now (length .entry) }) ⌝ }
 {
     let here = Cursor {
-        at: *at,
+        at: Octets(*at),
         left: Records(*left),
     };
     let its = *station;
-    let next = swap_station::next_for(here, file, its);
+    let next = swap::next_for(here, file, its);
     show(next, file, at, left, found, ads, tab, kind, from, length)
 }
 
@@ -104,26 +123,28 @@ fn show(
     match next {
         Next::End => {
             *found = false;
-            0
+            table::NONE
         }
         Next::NoRecord => {
             *found = false;
-            18
+            table::FAULTY_FILE
         }
         Next::Record(entry, after) => {
             let its = swap::cursor::ads(file, entry);
             let its_kind = entry.kind;
+            let start = entry.from;
             let count = entry.length;
+            let place = after.at;
             let records = after.left;
             *ads = its;
             *tab = entry.tab;
             *kind = swap::kind::octet_of(its_kind);
-            *from = entry.from;
+            *from = start.0;
             *length = count.0;
-            *at = after.at;
+            *at = place.0;
             *left = records.0;
             *found = true;
-            0
+            table::NONE
         }
     }
 }

@@ -2,6 +2,7 @@
 ghost use mathlib.Core.Path.{_≡_};
 ghost use Rattle.swap_write.specs.Writing.{writing};
 ghost use Rattle.swap_exports.specs.Reports.{writtenAs};
+use numbers::table;
 use swap_write::Written;
 
 // 0 with the file's length, or 18 with the offset, or 17; a refusal leaves the buffer, and each cell that is not named is kept.
@@ -19,12 +20,12 @@ pub extern "C" fn propolisk_swap_write(
     match written {
         Written::Whole(octets) => {
             *length = octets.0;
-            0
+            table::NONE
         }
         Written::Fault(start) => {
             *offset = start.0;
-            18
+            table::FAULTY_FILE
         }
-        Written::Short => 17,
+        Written::Short => table::WRONG_LENGTH,
     }
 }

@@ -10,7 +10,7 @@ use borrow.Author.Tests.{le-leb, ltb-true, ltb-false}
 use Rattle.numbers.specs.Answer.{given}
 use Rattle.number.specs.Groups.{encoded}
 use Rattle.number.proofs.Laying.{width-one, width-two}
-use Rattle.swap.specs.Record.{Record, Sound, OfOctets, Each, Rising, key}
+use Rattle.swap.specs.Record.{Record, Sound, OfOctets, Each, Rising, rank}
 use Rattle.swap.specs.Encoding.{recordsOctets, encode, Within}
 use Rattle.swap.specs.Reading.{verdictOf, inRecords}
 use Rattle.swap.proofs.Encoded.{all-octets}
@@ -25,10 +25,10 @@ first (Each.more p s) = p
 later : {P : Record → Type 0} {q : Record} {qs : List Record} → Each P (q ∷ qs) → Each P qs
 later (Each.more p s) = s
 
-lowest : {least : ℕ} {q : Record} {qs : List Record} → Rising least (q ∷ qs) → least ≤ key q
+lowest : {least : ℕ} {q : Record} {qs : List Record} → Rising least (q ∷ qs) → least ≤ rank q
 lowest (Rising.more h s) = h
 
-above : {least : ℕ} {q : Record} {qs : List Record} → Rising least (q ∷ qs) → Rising (suc (key q)) qs
+above : {least : ℕ} {q : Record} {qs : List Record} → Rising least (q ∷ qs) → Rising (suc (rank q)) qs
 above (Rising.more h s) = s
 
 -- the count of one record more takes no fewer octets
@@ -50,39 +50,39 @@ module _ (r : Record) where
   sound-without : (rs : List Record) → Each Sound (placed r rs) → Each Sound rs
   unfolding placed
   sound-without [] s = Each.none
-  sound-without (q ∷ qs) s = go (leb (key q) (key r)) refl (sound-without qs)
+  sound-without (q ∷ qs) s = go (leb (rank q) (rank r)) refl (sound-without qs)
     where
-      go : (b : Bool) → leb (key q) (key r) ≡ b → (Each Sound (placed r qs) → Each Sound qs) → Each Sound (q ∷ qs)
+      go : (b : Bool) → leb (rank q) (rank r) ≡ b → (Each Sound (placed r qs) → Each Sound qs) → Each Sound (q ∷ qs)
       go true e ih = let t : Each Sound (q ∷ placed r qs) = rw e at s in Each.more (first t) (ih (later t))
       go false e ih = let t : Each Sound (r ∷ q ∷ qs) = rw e at s in later t
 
   rising-without : (least : ℕ) (rs : List Record) → Rising least (placed r rs) → Rising least rs
   unfolding placed
   rising-without least [] s = Rising.none
-  rising-without least (q ∷ qs) s = go (leb (key q) (key r)) refl (rising-without (suc (key q)) qs)
+  rising-without least (q ∷ qs) s = go (leb (rank q) (rank r)) refl (rising-without (suc (rank q)) qs)
     where
-      go : (b : Bool) → leb (key q) (key r) ≡ b → (Rising (suc (key q)) (placed r qs) → Rising (suc (key q)) qs) → Rising least (q ∷ qs)
+      go : (b : Bool) → leb (rank q) (rank r) ≡ b → (Rising (suc (rank q)) (placed r qs) → Rising (suc (rank q)) qs) → Rising least (q ∷ qs)
       go true e ih = let t : Rising least (q ∷ placed r qs) = rw e at s in Rising.more (lowest t) (ih (above t))
       go false e ih =
           let t : Rising least (r ∷ q ∷ qs) = rw e at s in
-          let k : least ≤ key q = omega (arith, lowest t, lowest (above t)) in
+          let k : least ≤ rank q = omega (arith, lowest t, lowest (above t)) in
           Rising.more k (above (above t))
 
   length-placed : (rs : List Record) → length (placed r rs) ≡ suc (length rs)
   unfolding placed
   length-placed [] = refl
-  length-placed (q ∷ qs) = go (leb (key q) (key r)) refl (length-placed qs)
+  length-placed (q ∷ qs) = go (leb (rank q) (rank r)) refl (length-placed qs)
     where
-      go : (b : Bool) → leb (key q) (key r) ≡ b → length (placed r qs) ≡ suc (length qs) → length (placed r (q ∷ qs)) ≡ suc (suc (length qs))
+      go : (b : Bool) → leb (rank q) (rank r) ≡ b → length (placed r qs) ≡ suc (length qs) → length (placed r (q ∷ qs)) ≡ suc (suc (length qs))
       go true e ih = rw e (ap suc ih)
       go false e ih = rw e
 
   octets-placed : (rs : List Record) → length (recordsOctets rs) ≤ length (recordsOctets (placed r rs))
   unfolding placed recordsOctets
   octets-placed [] = omega arith
-  octets-placed (q ∷ qs) = go (leb (key q) (key r)) refl (octets-placed qs)
+  octets-placed (q ∷ qs) = go (leb (rank q) (rank r)) refl (octets-placed qs)
     where
-      go : (b : Bool) → leb (key q) (key r) ≡ b → length (recordsOctets qs) ≤ length (recordsOctets (placed r qs)) → length (recordsOctets (q ∷ qs)) ≤ length (recordsOctets (placed r (q ∷ qs)))
+      go : (b : Bool) → leb (rank q) (rank r) ≡ b → length (recordsOctets qs) ≤ length (recordsOctets (placed r qs)) → length (recordsOctets (q ∷ qs)) ≤ length (recordsOctets (placed r (q ∷ qs)))
       go true e ih = rw e (simp length-append (omega arith))
       go false e ih = rw e (simp length-append (omega arith))
 
@@ -116,16 +116,16 @@ pub any-order : (heads contents : List ℕ) (offered : List Record) → Each OfO
 any-order heads contents offered o h = rw (← all-kept offered [] h) (collected heads contents o)
 
 -- a record above all others goes to the end
-no-lower : (ps : List Record) (r : Record) (qs : List Record) (least : ℕ) → Rising least (ps ++ r ∷ qs) → least ≤ key r
+no-lower : (ps : List Record) (r : Record) (qs : List Record) (least : ℕ) → Rising least (ps ++ r ∷ qs) → least ≤ rank r
 no-lower [] r qs least h = lowest h
-no-lower (p ∷ ps) r qs least h = omega (arith, lowest h, no-lower ps r qs (suc (key p)) (above h))
+no-lower (p ∷ ps) r qs least h = omega (arith, lowest h, no-lower ps r qs (suc (rank p)) (above h))
 
 placed-last : (ps : List Record) (r : Record) (qs : List Record) (least : ℕ) → Rising least (ps ++ r ∷ qs) → placed r ps ≡ ps ++ r ∷ []
 unfolding placed
 placed-last [] r qs least h = refl
 placed-last (p ∷ ps) r qs least h =
-    rw (le-leb (key p) (key r) (omega (arith, no-lower ps r qs (suc (key p)) (above h))))
-    (ap (λ (s : List Record). p ∷ s) (placed-last ps r qs (suc (key p)) (above h)))
+    rw (le-leb (rank p) (rank r) (omega (arith, no-lower ps r qs (suc (rank p)) (above h))))
+    (ap (λ (s : List Record). p ∷ s) (placed-last ps r qs (suc (rank p)) (above h)))
 
 order-kept : (qs ps : List Record) → Rising 0 (ps ++ qs) → inOrder ps qs ≡ ps ++ qs
 unfolding inOrder

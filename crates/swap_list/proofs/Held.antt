@@ -13,7 +13,7 @@ use Rattle.numbers.specs.Counts.{inOctets}
 use Rattle.numbers.specs.Answer.{refusedAt}
 use Rattle.numbers.specs.Table.{faultyFile}
 use Rattle.number.specs.Groups.{encoded, groups}
-use Rattle.swap.specs.Record.{Record, keyOf}
+use Rattle.swap.specs.Record.{Record, rankOf}
 use Rattle.swap.proofs.Verdicts.{verdict-long}
 use Rattle.swap_write.specs.Heads.{headSize, headOf, headLength, bodyOf, fileOf}
 use Rattle.swap_list.specs.declared.RecordList.{RecordList}
@@ -66,7 +66,7 @@ too-long list r heads contents end l e h =
     let front : List ℕ = take (list .octets .0) contents in
     let known : length front ≡ min (list .octets .0) 65536 = ap length (sym (held-contents (list .octets .0) contents l)) ∙ length-take-le _ contents (omega (arith)) in
     let hs : List ℕ = headsWith (headOf r) (take (headSize * list .records .0) heads) in
-    let from : ℕ = placeOf (keyOf (take 7 (headOf r))) (take (headSize * list .records .0) heads) .from in
+    let from : ℕ = placeOf (rankOf (take 7 (headOf r))) (take (headSize * list .records .0) heads) .from in
     let ds : List ℕ = inserted front from (r .content) in
     taken-refused hs ds heads contents faultyFile (inOctets 65536) (verdict-long (fileOf hs ds) (omega (arith, file-long hs ds, length-inserted front from (r .content), known, e)))
 

@@ -7,7 +7,7 @@ use native.Mathlib.Omega.{arith}
 use lib.ListN.{length, take, length-append}
 use lib.Dec.{leb}
 use lib.Seq.{take-at, drop-at, take-append-add, drop-append-add}
-use Rattle.swap.specs.Record.{Record, OfOctets, Each, keyOf, key}
+use Rattle.swap.specs.Record.{Record, OfOctets, Each, rankOf, rank}
 use Rattle.swap.specs.Encoding.{encode}
 use Rattle.swap.specs.Reading.{verdictOf}
 use Rattle.swap_write.specs.Heads.{headSize, headOf, headsOf, contentsOf}
@@ -16,15 +16,15 @@ use Rattle.swap_list.specs.declared.RecordList.{RecordList}
 use Rattle.swap_list.specs.Adding.{placeAmong, placeOf, inserted, headsWith, contentsWith, judgedAdding, takenOver, addingHead, adding}
 use Rattle.swap_list.specs.Ordered.{placed}
 
--- the first seven octets of a head are the record's key
-pub head-key : (r : Record) (hs : List ℕ) → length (r .ads) ≡ 6 → keyOf (take 7 (headOf r ++ hs)) ≡ key r
-unfolding headOf key
-head-key r hs a =
+-- the first seven octets of a head are the record's rank
+pub head-rank : (r : Record) (hs : List ℕ) → length (r .ads) ≡ 6 → rankOf (take 7 (headOf r ++ hs)) ≡ rank r
+unfolding headOf rank
+head-rank r hs a =
     let p : List ℕ = r .ads ++ r .tab ∷ [] in
     let q : List ℕ = r .kind ∷ length (r .content) % 256 ∷ length (r .content) / 256 ∷ hs in
     let e : headOf r ++ hs ≡ p ++ q = append-assoc (r .ads) _ hs ∙ sym (append-assoc (r .ads) (r .tab ∷ []) q) in
     let l : length p ≡ 7 = simp length-append (omega arith) in
-    ap (λ (t : List ℕ). keyOf (take 7 t)) e ∙ ap keyOf (take-at p q 7 l)
+    ap (λ (t : List ℕ). rankOf (take 7 t)) e ∙ ap rankOf (take-at p q 7 l)
 
 -- past a front part
 inserted-past : (a b piece : List ℕ) (n at : ℕ) → length a ≡ n → inserted (a ++ b) (n + at) piece ≡ a ++ inserted b at piece
@@ -38,33 +38,33 @@ inserted-front s piece = refl
 
 -- the heads and the data of records, with a record's own inserted among so many
 pub record InPlace (r : Record) (rs : List Record) : Type 0 where
-  pub heads : inserted (headsOf rs) (placeAmong (length rs) (key r) (headsOf rs) .head) (headOf r) ≡ headsOf (placed r rs)
-  pub contents : inserted (contentsOf rs) (placeAmong (length rs) (key r) (headsOf rs) .from) (r .content) ≡ contentsOf (placed r rs)
+  pub heads : inserted (headsOf rs) (placeAmong (length rs) (rank r) (headsOf rs) .head) (headOf r) ≡ headsOf (placed r rs)
+  pub contents : inserted (contentsOf rs) (placeAmong (length rs) (rank r) (headsOf rs) .from) (r .content) ≡ contentsOf (placed r rs)
 
 module _ (r q : Record) (qs : List Record) (six : length (q .ads) ≡ 6) where
-  later : leb (key q) (key r) ≡ true → InPlace r qs → InPlace r (q ∷ qs)
+  later : leb (rank q) (rank r) ≡ true → InPlace r qs → InPlace r (q ∷ qs)
   unfolding placed headsOf contentsOf placeAmong
   later e ih =
-      let k = head-key q (headsOf qs) (six) in
+      let k = head-rank q (headsOf qs) (six) in
       let d = drop-at (headOf q) (headsOf qs) 10 (ten q (headsOf qs) six) in
       record {
         heads = rw (k, e, d, inserted-past (headOf q) (headsOf qs) (headOf r) 10 _ (ten q (headsOf qs) six), ih .heads);
         contents = rw (k, e, d, stated q (headsOf qs) six, inserted-past (q .content) (contentsOf qs) (r .content) (length (q .content)) _ refl, ih .contents);
       }
 
-  here : leb (key q) (key r) ≡ false → InPlace r (q ∷ qs)
+  here : leb (rank q) (rank r) ≡ false → InPlace r (q ∷ qs)
   unfolding placed headsOf contentsOf placeAmong
   here e =
-      let k = head-key q (headsOf qs) (six) in
+      let k = head-rank q (headsOf qs) (six) in
       record {
         heads = rw (k, e) (inserted-front _ (headOf r));
         contents = rw (k, e) (inserted-front _ (r .content));
       }
 
   turn : InPlace r qs → InPlace r (q ∷ qs)
-  turn ih = go (leb (key q) (key r)) refl
+  turn ih = go (leb (rank q) (rank r)) refl
     where
-      go : (b : Bool) → leb (key q) (key r) ≡ b → InPlace r (q ∷ qs)
+      go : (b : Bool) → leb (rank q) (rank r) ≡ b → InPlace r (q ∷ qs)
       go true e = later e ih
       go false e = here e
 
@@ -78,16 +78,16 @@ pub with-record : (r : Record) (rs : List Record) → length (r .ads) ≡ 6 → 
 unfolding headsWith contentsWith placeOf
 with-record r rs a s =
     let n : length (headsOf rs) / 10 ≡ length rs = omega (arith, heads-long s) in
-    let k : keyOf (take 7 (headOf r)) ≡ key r = ap (λ (t : List ℕ). keyOf (take 7 t)) (sym (append-nil (headOf r))) ∙ head-key r [] a in
+    let k : rankOf (take 7 (headOf r)) ≡ rank r = ap (λ (t : List ℕ). rankOf (take 7 t)) (sym (append-nil (headOf r))) ∙ head-rank r [] a in
     let g = in-place r s in
     (rw (n, k) (g .heads), rw (n, k) (g .contents))
 
 pub placed-octets : (r : Record) {rs : List Record} → OfOctets r → Each OfOctets rs → Each OfOctets (placed r rs)
 unfolding placed
 placed-octets r p Each.none = Each.more p Each.none
-placed-octets r p (Each.more {r = q} {rs = qs} h s) = go (leb (key q) (key r)) refl (placed-octets r p s)
+placed-octets r p (Each.more {r = q} {rs = qs} h s) = go (leb (rank q) (rank r)) refl (placed-octets r p s)
   where
-    go : (b : Bool) → leb (key q) (key r) ≡ b → Each OfOctets (placed r qs) → Each OfOctets (placed r (q ∷ qs))
+    go : (b : Bool) → leb (rank q) (rank r) ≡ b → Each OfOctets (placed r qs) → Each OfOctets (placed r (q ∷ qs))
     go true e ih = rw e (Each.more h ih)
     go false e ih = rw e (Each.more p (Each.more h s))
 

@@ -10,7 +10,7 @@ use Rattle.numbers.specs.Answer.{given, refusedAt}
 use Rattle.octets.specs.Splice.{spliced}
 use Rattle.octets.proofs.Splice.{spliced-front}
 use Rattle.swap.specs.declared.file.Records.{Records}
-use Rattle.swap.specs.Record.{keyOf}
+use Rattle.swap.specs.Record.{rankOf}
 use Rattle.swap.specs.Reading.{verdictOf}
 use Rattle.swap_write.specs.Heads.{fileOf}
 use Rattle.swap_write.proofs.Laid.{accepted-body}
@@ -29,6 +29,6 @@ module _ (more all heads contents : List ℕ) where
       rw (← e, p, q, spliced-front heads more (omega arith), spliced-front contents all d)
 
 -- the place found, and the head inserted there
-pub added-to : (head content listHeads listContents heads contents front : List ℕ) (k : ℕ) (p : Place) → k ≡ keyOf (take 7 head) → p ≡ placeOf k listHeads → front ≡ inserted listHeads (p .head) head → takenOver front (inserted listContents (p .from) content) heads contents ≡ addingHead head content listHeads listContents heads contents
+pub added-to : (head content listHeads listContents heads contents front : List ℕ) (k : ℕ) (p : Place) → k ≡ rankOf (take 7 head) → p ≡ placeOf k listHeads → front ≡ inserted listHeads (p .head) head → takenOver front (inserted listContents (p .from) content) heads contents ≡ addingHead head content listHeads listContents heads contents
 unfolding addingHead headsWith contentsWith
 added-to head content listHeads listContents heads contents front k p e q f = rw (f, q, e)

@@ -12,10 +12,10 @@ use Rattle.numbers.specs.Answer.{Answer, given, refused, refusedAt}
 use Rattle.octets.proofs.Splice.{take-fronted}
 use Rattle.octets.proofs.Below.{Below, below-append, below-take, below-drop}
 use Rattle.swap.specs.declared.file.Records.{Records}
-use Rattle.swap.specs.Record.{Record, keyOf}
+use Rattle.swap.specs.Record.{Record, rankOf}
 use Rattle.swap.specs.Reading.{verdictOf}
 use Rattle.swap_write.specs.Heads.{headSize, headOf, fileOf}
-use Rattle.swap_write.specs.Writing.{faulty, writing, judgedWriting, laid}
+use Rattle.swap_write.specs.Writing.{writing, judgedWriting, laid}
 use Rattle.swap_write.proofs.Accepted.{accepted-long}
 use Rattle.swap_list.specs.declared.RecordList.{RecordList}
 use Rattle.swap_list.specs.Adding.{Outcome, placeOf, inserted, headsWith, contentsWith, judgedAdding, takenOver, addingHead, adding}
@@ -34,7 +34,7 @@ below-inserted s at piece h b =
 
 below-with : (head hs : List ℕ) → Below 256 head → Below 256 hs → Below 256 (headsWith head hs)
 unfolding headsWith
-below-with head hs h b = below-inserted hs (placeOf (keyOf (take 7 head)) hs .head) head h b
+below-with head hs h b = below-inserted hs (placeOf (rankOf (take 7 head)) hs .head) head h b
 
 -- heads and contents that were taken over, by the verdict on them
 taken : (hs cs heads contents : List ℕ) (next : RecordList) → Below 256 hs → takenOver hs cs heads contents .answer ≡ given next → verdictOf (fileOf (headsOfList next (takenOver hs cs heads contents)) (contentsOfList next (takenOver hs cs heads contents))) ≡ given (next .records)
@@ -67,15 +67,15 @@ kept-accepted list next r heads contents b h e =
     taken (headsWith (headOf r) hs) (contentsWith (headOf r) (r .content) hs (take (list .octets .0) contents)) heads contents next (below-with (headOf r) hs h (below-take 256 (lit< tt) n heads b)) e
 
 -- an accepted file is written or has no room
-never-faulty : (hs cs buffer : List ℕ) (c : Records) (n : ℕ) (o : Octets) → verdictOf (fileOf hs cs) ≡ given c → writing hs cs buffer .answer ≡ faulty n o → ⊥
+never-faulty : (hs cs buffer : List ℕ) (c : Records) (n : ℕ) (o : Octets) → verdictOf (fileOf hs cs) ≡ given c → writing hs cs buffer .answer ≡ refusedAt n o → ⊥
 unfolding writing judgedWriting laid
 never-faulty hs cs buffer c n o v e = go (leb (length (fileOf hs cs)) (length buffer)) refl (rw v at e)
   where
-    go : (b : Bool) → leb (length (fileOf hs cs)) (length buffer) ≡ b → laid (fileOf hs cs) buffer .answer ≡ faulty n o → ⊥
+    go : (b : Bool) → leb (length (fileOf hs cs)) (length buffer) ≡ b → laid (fileOf hs cs) buffer .answer ≡ refusedAt n o → ⊥
     go true q f = let f = rw q at f in let z : _≡_ {A = ℕ} 0 1 = cc in omega arith
     go false q f = let f = rw q at f in let z : _≡_ {A = ℕ} 0 1 = cc in omega arith
 
 -- so the writer never gives 18 for it
-pub kept-writes : (list next : RecordList) (r : Record) (heads contents buffer : List ℕ) (n : ℕ) (o : Octets) → Below 256 heads → Below 256 (headOf r) → adding list r heads contents .answer ≡ given next → writing (headsOfList next (adding list r heads contents)) (contentsOfList next (adding list r heads contents)) buffer .answer ≡ faulty n o → ⊥
+pub kept-writes : (list next : RecordList) (r : Record) (heads contents buffer : List ℕ) (n : ℕ) (o : Octets) → Below 256 heads → Below 256 (headOf r) → adding list r heads contents .answer ≡ given next → writing (headsOfList next (adding list r heads contents)) (contentsOfList next (adding list r heads contents)) buffer .answer ≡ refusedAt n o → ⊥
 kept-writes list next r heads contents buffer n o b h e f =
     never-faulty _ _ buffer (next .records) n o (kept-accepted list next r heads contents b h e) f

@@ -9,13 +9,20 @@ use Rattle.numbers.specs.Answer.{Answer, given, refused, refusedAt}
 use Rattle.octets.specs.Splice.{fronted}
 use Rattle.numbers.specs.Table.{faultyFile}
 use Rattle.swap.specs.declared.file.Records.{Records}
-use Rattle.swap.specs.Record.{Record, keyOf}
+use Rattle.swap.specs.Record.{Record, rankOf, countLimit, fileLimit}
 use Rattle.swap.specs.Reading.{verdictOf, inRecords}
 use Rattle.swap_write.specs.Heads.{headSize, headOf, headLength, fileOf}
 use Rattle.swap_list.specs.declared.RecordList.{RecordList}
 use Rattle.swap_list.specs.declared.Added.{Added}
 use Rattle.swap_list.specs.declared.Added.the-variants.{Kept, Fault}
 use Rattle.swap_list.specs.declared.place.Place.{Place}
+
+-- the arrays that are lent with a list: as many heads as a file has records, and as much data as a file has
+abbrev pub headsSize : ℕ
+headsSize = headSize * countLimit
+
+abbrev pub contentsSize : ℕ
+contentsSize = fileLimit
 
 abbrev pub empty : RecordList
 empty = record { records = inRecords 0; octets = inOctets 0 }
@@ -27,14 +34,14 @@ recordOf ads tab kind content = record { ads = ads; tab = tab; kind = kind; cont
 abbrev pub further : ℕ → ℕ → Place → Place
 further head from p = record { head = head + p .head; from = from + p .from }
 
--- the place among so many heads: after those at the front that have no higher key, and their data
+-- the place among so many heads: after those at the front that have no higher rank, and their data
 unfoldable pub placeAmong : ℕ → ℕ → List ℕ → Place
-placeAmong zero key heads = record { head = 0; from = 0 }
-placeAmong (suc k) key heads =
-    cond (leb (keyOf (take 7 heads)) key) (further headSize (headLength heads) (placeAmong k key (drop headSize heads))) (record { head = 0; from = 0 })
+placeAmong zero rank heads = record { head = 0; from = 0 }
+placeAmong (suc k) rank heads =
+    cond (leb (rankOf (take 7 heads)) rank) (further headSize (headLength heads) (placeAmong k rank (drop headSize heads))) (record { head = 0; from = 0 })
 
 unfoldable pub placeOf : ℕ → List ℕ → Place
-placeOf key heads = placeAmong (length heads / headSize) key heads
+placeOf rank heads = placeAmong (length heads / headSize) rank heads
 
 -- s with a piece before its element at an offset; after all of them where the offset is past the end
 unfoldable pub inserted : List ℕ → ℕ → List ℕ → List ℕ
@@ -42,11 +49,11 @@ inserted s at piece = take at s ++ piece ++ drop at s
 
 -- the heads with a head in its place, by its first seven octets: ADS and TAB
 unfoldable pub headsWith : List ℕ → List ℕ → List ℕ
-headsWith head heads = inserted heads (placeOf (keyOf (take 7 head)) heads .head) head
+headsWith head heads = inserted heads (placeOf (rankOf (take 7 head)) heads .head) head
 
 -- the data with that of the head in its place
 unfoldable pub contentsWith : List ℕ → List ℕ → List ℕ → List ℕ → List ℕ
-contentsWith head content heads contents = inserted contents (placeOf (keyOf (take 7 head)) heads .from) content
+contentsWith head content heads contents = inserted contents (placeOf (rankOf (take 7 head)) heads .from) content
 
 -- the answer, and the lent arrays after the call
 pub record Outcome : Type 0 where

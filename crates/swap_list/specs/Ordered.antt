@@ -2,9 +2,9 @@
 use mathlib.Core.Bool.{cond}
 use mathlib.Core.List.{List, [], _∷_}
 use lib.Dec.{leb}
-use Rattle.swap.specs.Record.{Record, key}
+use Rattle.swap.specs.Record.{Record, rank}
 
--- after the records at the front that have no higher key
+-- after the records at the front that have no higher rank
 unfoldable pub placed : Record → List Record → List Record
 placed r [] = r ∷ []
-placed r (q ∷ qs) = cond (leb (key q) (key r)) (q ∷ placed r qs) (r ∷ q ∷ qs)
+placed r (q ∷ qs) = cond (leb (rank q) (rank r)) (q ∷ placed r qs) (r ∷ q ∷ qs)

@@ -3,14 +3,18 @@ ghost use mathlib.Core.Path.{_≡_};
 ghost use Prim.Native.Nat.{_+_, _%_, _≤_, _<_};
 ghost use lib.ListN.{length, take};
 ghost use Rattle.octets.specs.Splice.{fronted};
-ghost use Rattle.swap_list.specs.Adding.{answerOfAdded, inserted, takenOver, addingHead};
+ghost use Rattle.swap_write.specs.Heads.{headSize};
+ghost use Rattle.swap_list.specs.Adding.{headsSize, contentsSize, answerOfAdded, inserted, takenOver, addingHead};
 use crate::Added;
+use crate::CONTENTS_SIZE;
+use crate::HEADS_SIZE;
 use crate::RecordList;
 use crate::place::at_most;
 use crate::place::place_of;
 use numbers::Octets;
 use swap::Verdict;
-use swap::item::key;
+use swap::item::rank;
+use swap_write::size::HEAD_SIZE;
 
 // The head and its data put into the front parts of heads and contents, in the head's place.
 pub(crate) fn add_to(
@@ -18,17 +22,17 @@ pub(crate) fn add_to(
     contents: &mut [u8],
     head_end: usize,
     content_end: usize,
-    head: &[u8; 10],
+    head: &[u8; HEAD_SIZE],
     content: &[u8],
 ) -> Added
-    requires { ⌜ (length (now heads) ≡ 40960) × (length (now contents) ≡ 65536) ⌝ }
-    requires { ⌜ («head_end» ≤ 40960) × («head_end» % 10 ≡ 0) × («content_end» + length (now content) < 65536) ⌝ }
+    requires { ⌜ (length (now heads) ≡ headsSize) × (length (now contents) ≡ contentsSize) ⌝ }
+    requires { ⌜ («head_end» ≤ headsSize) × («head_end» % headSize ≡ 0) × («content_end» + length (now content) < contentsSize) ⌝ }
     ensures { λ r. ⌜ record { answer = answerOfAdded r; heads = now (heads .exit); contents = now (contents .exit) } ≡ addingHead (now (head .entry)) (now (content .entry)) (take «head_end» (now (heads .entry))) (take «content_end» (now (contents .entry))) (now (heads .entry)) (now (contents .entry)) ⌝ }
 {
-    let place = place_of(&heads[..head_end], key(head));
-    let mut more = [0u8; 40970];
+    let place = place_of(&heads[..head_end], rank(head));
+    let mut more = [0u8; HEADS_SIZE + HEAD_SIZE];
     insert(&mut more, &heads[..head_end], place.head, head);
-    let count = head_end + 10;
+    let count = head_end + HEAD_SIZE;
     add_content(
         heads,
         contents,
@@ -48,10 +52,10 @@ fn add_content(
     from: usize,
     content: &[u8],
 ) -> Added
-    requires { ⌜ (length (now heads) ≡ 40960) × (length (now contents) ≡ 65536) × (length (now more) % 10 ≡ 0) × (end + length (now content) < 65536) ⌝ }
+    requires { ⌜ (length (now heads) ≡ headsSize) × (length (now contents) ≡ contentsSize) × (length (now more) % headSize ≡ 0) × (end + length (now content) < contentsSize) ⌝ }
     ensures { λ r. ⌜ record { answer = answerOfAdded r; heads = now (heads .exit); contents = now (contents .exit) } ≡ takenOver (now (more .entry)) (inserted (take end (now (contents .entry))) from (now (content .entry))) (now (heads .entry)) (now (contents .entry)) ⌝ }
 {
-    let mut all = [0u8; 65536];
+    let mut all = [0u8; CONTENTS_SIZE];
     insert(&mut all, &contents[..end], from, content);
     let count = end + content.len();
     keep(heads, contents, more, &all[..count])
@@ -70,7 +74,7 @@ fn insert(dst: &mut [u8], src: &[u8], at: usize, piece: &[u8])
 
 // Takes over other heads and contents where their file would be accepted.
 fn keep(heads: &mut [u8], contents: &mut [u8], more: &[u8], all: &[u8]) -> Added
-    requires { ⌜ (length (now heads) ≡ 40960) × (length (now more) % 10 ≡ 0) × (length (now all) ≤ length (now contents)) ⌝ }
+    requires { ⌜ (length (now heads) ≡ headsSize) × (length (now more) % headSize ≡ 0) × (length (now all) ≤ length (now contents)) ⌝ }
     ensures { λ r. ⌜ record { answer = answerOfAdded r; heads = now (heads .exit); contents = now (contents .exit) } ≡ takenOver (now (more .entry)) (now (all .entry)) (now (heads .entry)) (now (contents .entry)) ⌝ }
 {
     let verdict = swap_write::verdict(more, all);

@@ -2,14 +2,22 @@
 ghost use mathlib.Core.Path.{_≡_};
 ghost use lib.ListN.{length};
 ghost use Rattle.swap.specs.Record.{kindOctet};
-ghost use Rattle.swap_list.specs.Adding.{empty, recordOf, answerOfAdded, adding};
+ghost use Rattle.swap_list.specs.Adding.{headsSize, contentsSize, empty, recordOf, answerOfAdded, adding};
 
-pub mod insert;
-pub mod place;
+mod insert;
+mod place;
 
 use numbers::Octets;
 use swap::Kind;
 use swap::Records;
+use swap::file::COUNT_LIMIT;
+use swap::file::FILE_LIMIT;
+use swap_write::size::HEAD_SIZE;
+
+// Octets of the array of heads: as many heads as a file has records.
+pub const HEADS_SIZE: usize = 40960;
+// Octets of the array of data: as many as a file has.
+pub const CONTENTS_SIZE: usize = 65536;
 
 // How many records the list has, and how many octets of data, at the front of the two arrays that are lent with it.
 pub struct RecordList {
@@ -36,8 +44,8 @@ impl RecordList {
     // The record goes to its place by ADS then TAB; a refusal leaves both arrays as they are.
     pub fn add(
         self,
-        heads: &mut [u8; 40960],
-        contents: &mut [u8; 65536],
+        heads: &mut [u8; HEADS_SIZE],
+        contents: &mut [u8; CONTENTS_SIZE],
         ads: [u8; 6],
         tab: u8,
         kind: Kind,
@@ -59,8 +67,8 @@ impl RecordList {
     // As `add`, with the octet that stands for the kind; one that stands for none is a bad item too.
     pub fn add_with_octet(
         self,
-        heads: &mut [u8; 40960],
-        contents: &mut [u8; 65536],
+        heads: &mut [u8; HEADS_SIZE],
+        contents: &mut [u8; CONTENTS_SIZE],
         ads: [u8; 6],
         tab: u8,
         kind: u8,
@@ -82,15 +90,15 @@ fn add_record(
     kind: u8,
     content: &[u8],
 ) -> Added
-    requires { ⌜ (length (now heads) ≡ 40960) × (length (now contents) ≡ 65536) ⌝ }
+    requires { ⌜ (length (now heads) ≡ headsSize) × (length (now contents) ≡ contentsSize) ⌝ }
     ensures { λ r. ⌜ record { answer = answerOfAdded r; heads = now (heads .exit); contents = now (contents .exit) } ≡ adding list (recordOf ads tab kind (now (content .entry))) (now (heads .entry)) (now (contents .entry)) ⌝ }
 {
     let records = list.records;
     let octets = list.octets;
-    let head_end = 10 * place::at_most(records.0, 4096);
-    let content_end = place::at_most(octets.0, 65536);
-    if 65536 - content_end <= content.len() {
-        return Added::Fault(Octets(65536));
+    let head_end = HEAD_SIZE * place::at_most(records.0, COUNT_LIMIT);
+    let content_end = place::at_most(octets.0, CONTENTS_SIZE);
+    if CONTENTS_SIZE - content_end <= content.len() {
+        return Added::Fault(Octets(FILE_LIMIT));
     }
     let head = place::head_of(ads, tab, kind, content.len());
     insert::add_to(heads, contents, head_end, content_end, &head, content)

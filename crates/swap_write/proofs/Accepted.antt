@@ -7,7 +7,7 @@ use lib.ListN.{length, getD, take, drop, length-drop}
 use Rattle.numbers.specs.Answer.{given}
 use Rattle.number.specs.Groups.{encoded}
 use Rattle.swap.specs.declared.file.Records.{Records}
-use Rattle.swap.specs.Record.{Record, keyOf}
+use Rattle.swap.specs.Record.{Record, rankOf}
 use Rattle.swap.specs.Items.{Judged, bad, good, judged, recordAt}
 use Rattle.swap.specs.Reading.{Outcome, faulty, listed, preceded, readRecords, verdictOf}
 use Rattle.swap.proofs.Tally.{records-bad, records-good}
@@ -24,9 +24,9 @@ listed-count (suc k) least at t rs e = go (judged least t) refl (listed-count k)
   where
     go : (j : Judged) → judged least t ≡ j → ((least at : ℕ) (t : List ℕ) (rs : List Record) → readRecords k least at t ≡ listed rs → length rs ≡ k) → length rs ≡ suc k
     go (bad o) q ih = absurd (not-listed (at + o) rs (sym (records-bad k least at t o q) ∙ e))
-    go (good w n) q ih = next (readRecords k (suc (keyOf (take 7 t))) (at + (8 + w + n)) (drop (8 + w + n) t)) refl (sym (records-good k least at t w n q) ∙ e)
+    go (good w n) q ih = next (readRecords k (suc (rankOf (take 7 t))) (at + (8 + w + n)) (drop (8 + w + n) t)) refl (sym (records-good k least at t w n q) ∙ e)
       where
-        next : (out : Outcome) → readRecords k (suc (keyOf (take 7 t))) (at + (8 + w + n)) (drop (8 + w + n) t) ≡ out → preceded (recordAt w n t) out ≡ listed rs → length rs ≡ suc k
+        next : (out : Outcome) → readRecords k (suc (rankOf (take 7 t))) (at + (8 + w + n)) (drop (8 + w + n) t) ≡ out → preceded (recordAt w n t) out ≡ listed rs → length rs ≡ suc k
         next (faulty o) p r = absurd (not-listed o rs r)
         next (listed more) p r =
             let same : recordAt w n t ∷ more ≡ rs = cc in

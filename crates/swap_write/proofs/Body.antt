@@ -1,6 +1,6 @@
 -- The octets of a head with its data, as the reader judges them: the head and the data alone say what it finds.
 use Prim.Native.Nat.{ℕ, suc, _+_, _^_, _≤_, _<_}
-use mathlib.Core.Path.{_≡_, refl, sym, _∙_}
+use mathlib.Core.Path.{_≡_, refl, sym, ap, _∙_}
 use mathlib.Core.Bool.{Bool, true, false, cond, and-eq-true-iff}
 use mathlib.Core.List.{List, _++_, append-assoc}
 use native.Mathlib.Omega.{arith}
@@ -8,10 +8,12 @@ use lib.ListN.{length, getD, take, drop, length-append, length-drop, List·getD-
 use lib.Seq.{take-append-le, take-at, drop-at, getD-drop, getD-take, take-take, length-take-le}
 use lib.Dec.{leb, ltb, lit<, lit≤}
 use borrow.Author.Tests.{le-leb, lt-leb, lt-ltb, leb-true}
+use Rattle.numbers.specs.declared.Octets.{Octets}
+use Rattle.numbers.specs.Counts.{inOctets}
 use Rattle.number.specs.Groups.{encoded, found, none}
 use Rattle.number.proofs.Forms.{front-form}
 use Rattle.swap.specs.declared.kind.Kind.{Kind}
-use Rattle.swap.specs.Record.{knownKind, kindOf, lengthLimit, acceptable, keyOf}
+use Rattle.swap.specs.Record.{knownKind, kindOf, lengthLimit, acceptable, rankOf}
 use Rattle.swap.specs.Items.{Judged, bad, good, judged, judgedContent, lengthAt, limited, goodAddress, goodKind, goodContent}
 use Rattle.swap_write.specs.declared.judge.Head.{Head}
 use Rattle.swap_write.specs.declared.judge.Head.the-variants.{Good, Bad}
@@ -20,18 +22,18 @@ use Rattle.swap_write.specs.Heading.{dataJudged, headJudged}
 
 -- what the reader finds where a head makes this
 abbrev pub asJudged : Head → Judged
-asJudged (Bad o) = bad o
-asJudged (Good n) = good (length (encoded n)) n
+asJudged (Bad o) = bad (o .0)
+asJudged (Good n) = good (length (encoded (n .0))) (n .0)
 
 data-laid : (kind : Kind) (n : ℕ) (c : List ℕ) → judgedContent kind (limited (lengthLimit kind) (found n (length (encoded n)))) (encoded n ++ c) ≡ asJudged (dataJudged kind n c)
 unfolding judgedContent limited dataJudged
 data-laid kind n c = go (leb n (lengthLimit kind))
   where
-    pick : (g : Bool) → cond g (good (length (encoded n)) n) (bad (8 + length (encoded n))) ≡ asJudged (cond g (Good n) (Bad (8 + length (encoded n))))
+    pick : (g : Bool) → cond g (good (length (encoded n)) n) (bad (8 + length (encoded n))) ≡ asJudged (cond g (Good (inOctets n)) (Bad (inOctets (8 + length (encoded n)))))
     pick true = refl
     pick false = refl
 
-    go : (a : Bool) → judgedContent kind (cond a (found n (length (encoded n))) none) (encoded n ++ c) ≡ asJudged (cond a (cond (goodContent kind n c) (Good n) (Bad (8 + length (encoded n)))) (Bad 8))
+    go : (a : Bool) → judgedContent kind (cond a (found n (length (encoded n))) none) (encoded n ++ c) ≡ asJudged (cond a (cond (goodContent kind n c) (Good (inOctets n)) (Bad (inOctets (8 + length (encoded n))))) (Bad (inOctets 8)))
     go false = refl
     go true = rw (drop-at (encoded n) c (length (encoded n)) refl) (pick (goodContent kind n c))
 
@@ -40,8 +42,8 @@ module _ (p : List ℕ) (n : ℕ) (c : List ℕ) (eight : length p ≡ 8) (small
   laid-long : 8 ≤ length ((p ++ encoded n) ++ c)
   laid-long = simp length-append (omega (arith, eight))
 
-  laid-key : take 7 ((p ++ encoded n) ++ c) ≡ take 7 p
-  laid-key = rw (append-assoc, take-append-le 7 p (encoded n ++ c) (omega (arith, eight)))
+  laid-rank : take 7 ((p ++ encoded n) ++ c) ≡ take 7 p
+  laid-rank = rw (append-assoc, take-append-le 7 p (encoded n ++ c) (omega (arith, eight)))
 
   laid-kind : getD ((p ++ encoded n) ++ c) 7 0 ≡ getD p 7 0
   laid-kind = rw append-assoc (List·getD-append p (encoded n ++ c) 0 7 (omega (arith, eight)))
@@ -49,16 +51,16 @@ module _ (p : List ℕ) (n : ℕ) (c : List ℕ) (eight : length p ≡ 8) (small
   laid-rest : drop 8 ((p ++ encoded n) ++ c) ≡ encoded n ++ c
   laid-rest = rw append-assoc (drop-at p (encoded n ++ c) 8 eight)
 
-  laid-judged : (least : ℕ) → judged least ((p ++ encoded n) ++ c) ≡ cond (leb least (keyOf (take 7 p))) (cond (knownKind (getD p 7 0)) (asJudged (dataJudged (kindOf (getD p 7 0)) n c)) (bad 7)) (bad 0)
+  laid-judged : (least : ℕ) → judged least ((p ++ encoded n) ++ c) ≡ cond (leb least (rankOf (take 7 p))) (cond (knownKind (getD p 7 0)) (asJudged (dataJudged (kindOf (getD p 7 0)) n c)) (bad 7)) (bad 0)
   unfolding judged goodAddress goodKind lengthAt dataJudged
   laid-judged least =
       let t : List ℕ = (p ++ encoded n) ++ c in
       let a : leb 7 (length t) ≡ true = le-leb 7 (length t) (omega (arith, laid-long)) in
       let b : ltb 0 (length (drop 7 t)) ≡ true = lt-ltb 0 (length (drop 7 t)) (omega (arith, laid-long, length-drop 7 t)) in
       let d : getD (drop 7 t) 0 0 ≡ getD p 7 0 = getD-drop 7 t 0 0 ∙ laid-kind in
-      rw (a, b, d, laid-key, laid-kind, laid-rest, front-form n c small, data-laid (kindOf (getD p 7 0)) n c)
+      rw (a, b, d, laid-rank, laid-kind, laid-rest, front-form n c small, data-laid (kindOf (getD p 7 0)) n c)
 
-asJudged-cases : (a b : Bool) (h : Head) → cond a (cond b (asJudged h) (bad 7)) (bad 0) ≡ asJudged (cond a (cond b h (Bad 7)) (Bad 0))
+asJudged-cases : (a b : Bool) (h : Head) → cond a (cond b (asJudged h) (bad 7)) (bad 0) ≡ asJudged (cond a (cond b h (Bad (inOctets 7))) (Bad (inOctets 0)))
 asJudged-cases false b h = refl
 asJudged-cases true false h = refl
 asJudged-cases true true h = refl
@@ -98,13 +100,13 @@ module _ (k : ℕ) (hs ds : List ℕ) (ten : 10 ≤ length hs) (small : headLeng
       go : (b : Bool) → leb (headLength hs) (length ds) ≡ b → judged least (bodyOf (suc k) hs ds) ≡ asJudged (headJudged least hs ds)
       go b e =
           rw (body-split b e, laid-judged (take 8 hs) (headLength hs) (follows b) eight small least, take-take 7 8 hs (lit≤ tt), getD-take 8 hs 7 0 (lit< tt), content-follows (kindOf (getD hs 7 0)) b e)
-          (asJudged-cases (leb least (keyOf (take 7 hs))) (knownKind (getD hs 7 0)) _)
+          (asJudged-cases (leb least (rankOf (take 7 hs))) (knownKind (getD hs 7 0)) _)
 
-  pub body-key : keyOf (take 7 (bodyOf (suc k) hs ds)) ≡ keyOf (take 7 hs)
-  body-key = go (leb (headLength hs) (length ds)) refl
+  pub body-rank : rankOf (take 7 (bodyOf (suc k) hs ds)) ≡ rankOf (take 7 hs)
+  body-rank = go (leb (headLength hs) (length ds)) refl
     where
-      go : (b : Bool) → leb (headLength hs) (length ds) ≡ b → keyOf (take 7 (bodyOf (suc k) hs ds)) ≡ keyOf (take 7 hs)
-      go b e = rw (body-split b e, laid-key (take 8 hs) (headLength hs) (follows b) eight small, take-take 7 8 hs (lit≤ tt))
+      go : (b : Bool) → leb (headLength hs) (length ds) ≡ b → rankOf (take 7 (bodyOf (suc k) hs ds)) ≡ rankOf (take 7 hs)
+      go b e = rw (body-split b e, laid-rank (take 8 hs) (headLength hs) (follows b) eight small, take-take 7 8 hs (lit≤ tt))
 
   -- where the data runs out
   pub length-cut : length ds < headLength hs → length (bodyOf (suc k) hs ds) ≡ 8 + length (encoded (headLength hs)) + length ds
@@ -127,20 +129,21 @@ module _ (k : ℕ) (hs ds : List ℕ) (ten : 10 ≤ length hs) (small : headLeng
     pub length-next : length (bodyOf (suc k) hs ds) ≡ 8 + length (encoded (headLength hs)) + headLength hs + length (bodyOf k (drop 10 hs) (drop (headLength hs) ds))
     length-next = rw (whole, length-append, front-long)
 
-passed : (b : Bool) (h : Head) (o n : ℕ) → cond b h (Bad o) ≡ Good n → (b ≡ true) × (h ≡ Good n)
+passed : (b : Bool) (h : Head) (o n : ℕ) → cond b h (Bad (inOctets o)) ≡ Good (inOctets n) → (b ≡ true) × (h ≡ Good (inOctets n))
 passed true h o n e = (refl, e)
 passed false h o n e = let z : _≡_ {A = ℕ} 0 1 = cc in let y : ⊥ = omega arith in absurd y
 
 -- a good head states its length, which the data has
-pub head-good : (least : ℕ) (hs ds : List ℕ) (n : ℕ) → headJudged least hs ds ≡ Good n → (n ≡ headLength hs) × (headLength hs ≤ length ds)
+pub head-good : (least : ℕ) (hs ds : List ℕ) (n : ℕ) → headJudged least hs ds ≡ Good (inOctets n) → (n ≡ headLength hs) × (headLength hs ≤ length ds)
 unfolding headJudged dataJudged goodContent
 head-good least hs ds n e =
     let kind : Kind = kindOf (getD hs 7 0) in
-    let a = passed (leb least (keyOf (take 7 hs))) _ 0 n e in
+    let a = passed (leb least (rankOf (take 7 hs))) _ 0 n e in
     let b = passed (knownKind (getD hs 7 0)) _ 7 n (a .1) in
     let c = passed (leb (headLength hs) (lengthLimit kind)) _ 8 n (b .1) in
     let d = passed (goodContent kind (headLength hs) ds) _ (8 + length (encoded (headLength hs))) n (c .1) in
     let f = and-eq-true-iff (leb (headLength hs) (length ds)) (acceptable kind (take (headLength hs) ds)) .0 (d .0) in
-    let g : Good (headLength hs) ≡ Good n = d .1 in
-    let m : headLength hs ≡ n = cc in
+    let g : Good (inOctets (headLength hs)) ≡ Good (inOctets n) = d .1 in
+    let k : inOctets (headLength hs) ≡ inOctets n = cc in
+    let m : headLength hs ≡ n = ap (λ (o : Octets). o .0) k in
     (sym m, leb-true (headLength hs) (length ds) (f .0))

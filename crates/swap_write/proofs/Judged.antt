@@ -14,7 +14,7 @@ use Rattle.numbers.specs.Table.{faultyFile}
 use Rattle.number.specs.Groups.{encoded}
 use Rattle.number.proofs.Fronts.{front-encoded}
 use Rattle.swap.specs.declared.file.Records.{Records}
-use Rattle.swap.specs.Record.{keyOf, fileLimit, countLimit}
+use Rattle.swap.specs.Record.{rankOf, fileLimit, countLimit}
 use Rattle.swap.specs.Items.{judged, bad, good}
 use Rattle.octets.proofs.Below.{below-drop}
 use Rattle.swap.specs.Reading.{faulty, listed, readRecords, answered, inRecords, verdictOf}
@@ -24,7 +24,7 @@ use Rattle.swap.proofs.Tally.{tallied, tallied-none, tallied-more, records-bad,
 use Rattle.swap_write.specs.declared.judge.Head.the-variants.{Good, Bad}
 use Rattle.swap_write.specs.Heads.{headLength, bodyOf, fileOf}
 use Rattle.swap_write.specs.Heading.{headJudged}
-use Rattle.swap_write.proofs.Body.{asJudged, body-judged, body-key, body-next, length-next, head-good}
+use Rattle.swap_write.proofs.Body.{asJudged, body-judged, body-rank, body-next, length-next, head-good}
 
 -- two octets make a length below 2^16
 pub length-small : (hs : List ℕ) → ((i : ℕ) → getD hs i 0 < 256) → headLength hs < 2 ^ 16
@@ -68,14 +68,14 @@ module _ (hs ds : List ℕ) (octets : (i : ℕ) → getD hs i 0 < 256) (count : 
     within : headLength (drop head hs) < 2 ^ 32
     within = omega (arith, length-small (drop head hs) (below-drop 256 (lit< tt) head hs octets))
 
-    bad-head : (o : ℕ) → headJudged least (drop head hs) (drop from ds) ≡ Bad o → refusedAt faultyFile (inOctets (at + o)) ≡ v
+    bad-head : (o : ℕ) → headJudged least (drop head hs) (drop from ds) ≡ Bad (inOctets o) → refusedAt faultyFile (inOctets (at + o)) ≡ v
     unfolding tallied
     bad-head o e =
         let B : List ℕ = bodyOf (suc left) (drop head hs) (drop from ds) in
         let q : judged least B ≡ bad o = body-judged left (drop head hs) (drop from ds) ten within least ∙ ap asJudged e in
         sym (j .due ∙ rw (records-bad left least at B o q))
 
-    good-head : (n : ℕ) → headJudged least (drop head hs) (drop from ds) ≡ Good n → Judging hs ds count v (at + (8 + length (encoded n) + n)) left (keyOf (take 7 (drop head hs)) + 1) (head + 10) (from + n)
+    good-head : (n : ℕ) → headJudged least (drop head hs) (drop from ds) ≡ Good (inOctets n) → Judging hs ds count v (at + (8 + length (encoded n) + n)) left (rankOf (take 7 (drop head hs)) + 1) (head + 10) (from + n)
     good-head n e =
         let H : List ℕ = drop head hs in
         let D : List ℕ = drop from ds in
@@ -93,14 +93,14 @@ module _ (hs ds : List ℕ) (octets : (i : ℕ) → getD hs i 0 < 256) (count : 
               j .due
               ∙ ap (tallied (count - suc left)) (records-good left least at B (length (encoded n)) n q)
               ∙ tallied-more (count - suc left) _ _
-              ∙ rw (k, next, body-key left H D ten within, add-one);
+              ∙ rw (k, next, body-rank left H D ten within, add-one);
         }
 
-  pub judging-bad : (left least head from o : ℕ) → Judging hs ds count v at left least head from → 0 < left → headJudged least (drop head hs) (drop from ds) ≡ Bad o → refusedAt faultyFile (inOctets (at + o)) ≡ v
+  pub judging-bad : (left least head from o : ℕ) → Judging hs ds count v at left least head from → 0 < left → headJudged least (drop head hs) (drop from ds) ≡ Bad (inOctets o) → refusedAt faultyFile (inOctets (at + o)) ≡ v
   judging-bad zero least head from o j h e = let z : ⊥ = omega arith in absurd z
   judging-bad (suc left) least head from o j h e = bad-head left least head from j o e
 
-  pub judging-good : (left least head from n : ℕ) → Judging hs ds count v at left least head from → 0 < left → headJudged least (drop head hs) (drop from ds) ≡ Good n → Judging hs ds count v (at + (8 + length (encoded n) + n)) (left - 1) (keyOf (take 7 (drop head hs)) + 1) (head + 10) (from + n)
+  pub judging-good : (left least head from n : ℕ) → Judging hs ds count v at left least head from → 0 < left → headJudged least (drop head hs) (drop from ds) ≡ Good (inOctets n) → Judging hs ds count v (at + (8 + length (encoded n) + n)) (left - 1) (rankOf (take 7 (drop head hs)) + 1) (head + 10) (from + n)
   judging-good zero least head from n j h e = let z : ⊥ = omega arith in absurd z
   judging-good (suc left) least head from n j h e =
       let l : suc left - 1 ≡ left = omega arith in

@@ -9,11 +9,12 @@ use lib.Dec.{lit<}
 use Rattle.octets.specs.Splice.{spliced, fronted}
 use Rattle.octets.proofs.Splice.{spliced-front, spliced-next, spliced-after, length-fronted}
 use Rattle.octets.proofs.Below.{below-drop}
+use Rattle.numbers.specs.Counts.{inOctets}
 use Rattle.numbers.specs.Answer.{given}
 use Rattle.number.specs.Groups.{encoded, octetsAt}
 use Rattle.number.proofs.Forms.{own-form}
 use Rattle.swap.specs.declared.file.Records.{Records}
-use Rattle.swap.specs.Record.{Record, countLimit, keyOf}
+use Rattle.swap.specs.Record.{Record, countLimit, rankOf}
 use Rattle.swap.specs.Items.{good, judged}
 use Rattle.swap.specs.Reading.{Outcome, faulty, listed, preceded, readRecords, verdictOf}
 use Rattle.swap.proofs.Tally.{records-bad, records-good}
@@ -52,13 +53,14 @@ listed-fits (suc k) least at hs ds rs b h e = go (headJudged least hs ds) refl (
 
     go : (j : Head) → headJudged least hs ds ≡ j → ((least at : ℕ) (hs ds : List ℕ) (rs : List Record) → ((i : ℕ) → getD hs i 0 < 256) → k * 10 ≤ length hs → readRecords k least at (bodyOf k hs ds) ≡ listed rs → Fits k hs ds) → (headLength hs ≤ length ds) × Fits k (drop 10 hs) (drop (headLength hs) ds)
     go (Bad o) q ih =
-        absurd (not-listed (at + o) rs (sym (records-bad k least at B o (body-judged k hs ds (omega arith) small least ∙ ap asJudged q)) ∙ e))
-    go (Good n) q ih =
+        absurd (not-listed (at + o .0) rs (sym (records-bad k least at B (o .0) (body-judged k hs ds (omega arith) small least ∙ ap asJudged q)) ∙ e))
+    go (Good stated) q ih =
+        let n = stated .0 in
         let g = head-good least hs ds n q in
         let j : judged least B ≡ good (length (encoded n)) n = body-judged k hs ds (omega arith) small least ∙ ap asJudged q in
         let l = listed-after _ _ rs (sym (records-good k least at B (length (encoded n)) n j) ∙ e) in
         let next : drop (8 + length (encoded n) + n) B ≡ bodyOf k (drop 10 hs) (drop (headLength hs) ds) = rw (g .0) (body-next k hs ds (omega arith) small (g .1)) in
-        let least′ : ℕ = suc (keyOf (take 7 B)) in
+        let least′ : ℕ = suc (rankOf (take 7 B)) in
         let at′ : ℕ = at + (8 + length (encoded n) + n) in
         (g .1, ih least′ at′ (drop 10 hs) (drop (headLength hs) ds) (l .0) (below-drop 256 (lit< tt) 10 hs b) (omega (arith, length-drop 10 hs)) (ap (readRecords k least′ at′) (sym next) ∙ l .1))
 
@@ -83,12 +85,12 @@ module _ (hs ds : List ℕ) (c : Records) (e : verdictOf (fileOf hs ds) ≡ give
       listed-fits (length hs / 10) 0 (length (encoded (length hs / 10))) hs ds (r .0) b (omega arith) (r .1)
 
 -- a number written is spliced in
-octets-spliced : (m : List ℕ) (at n : ℕ) → octetsAt m at n ≡ spliced m at (encoded n)
+octets-spliced : (m : List ℕ) (at n : ℕ) → octetsAt m (inOctets at) n ≡ spliced m at (encoded n)
 unfolding octetsAt spliced
 octets-spliced m at n = rw take-length
 
 -- the three writes that lay a record
-pub record-laid : (m hs c : List ℕ) (at from : ℕ) → 10 ≤ length hs → from ≡ at + 8 + length (encoded (headLength hs)) → from + length c ≤ length m → spliced (octetsAt (spliced m at (take 8 hs)) (at + 8) (headLength hs)) from c ≡ spliced m at (frontOctets hs ++ c)
+pub record-laid : (m hs c : List ℕ) (at from : ℕ) → 10 ≤ length hs → from ≡ at + 8 + length (encoded (headLength hs)) → from + length c ≤ length m → spliced (octetsAt (spliced m at (take 8 hs)) (inOctets (at + 8)) (headLength hs)) from c ≡ spliced m at (frontOctets hs ++ c)
 unfolding frontOctets
 record-laid m hs c at from ten e h =
     let E : List ℕ = encoded (headLength hs) in
@@ -96,7 +98,7 @@ record-laid m hs c at from ten e h =
     let a : spliced (spliced m at (take 8 hs)) (at + 8) E ≡ spliced m at (take 8 hs ++ E) = ap (λ (i : ℕ). spliced (spliced m at (take 8 hs)) (at + i) E) (sym k) ∙ spliced-after m at (take 8 hs) E (omega arith) in
     let l : length (take 8 hs ++ E) ≡ 8 + length E = length-append (take 8 hs) E ∙ rw k in
     let f : from ≡ at + length (take 8 hs ++ E) = omega arith in
-    rw (octets-spliced, a, f) (spliced-after m at (take 8 hs ++ E) c (omega arith))
+    rw (octets-spliced (spliced m at (take 8 hs)) (at + 8), a, f) (spliced-after m at (take 8 hs ++ E) c (omega arith))
 
 -- where the loop stands: p is laid
 pub record Laying (hs ds m p b : List ℕ) (at left head from : ℕ) : Type 0 where
@@ -123,7 +125,7 @@ fronted-over p q m h =
 
 module _ (hs ds m : List ℕ) (h : length (fileOf hs ds) ≤ length m) where
   -- the count, laid at the front
-  counted : octetsAt m 0 (length hs / 10) ≡ fronted (encoded (length hs / 10)) m
+  counted : octetsAt m (inOctets 0) (length hs / 10) ≡ fronted (encoded (length hs / 10)) m
   unfolding fileOf
   counted =
       let n : ℕ = length hs / 10 in
@@ -134,7 +136,7 @@ module _ (hs ds m : List ℕ) (h : length (fileOf hs ds) ≤ length m) where
   count-first = let n : ℕ = length hs / 10 in omega (arith, length-append (encoded n) (bodyOf n hs ds))
 
   -- b is the buffer with the count
-  module _ (b : List ℕ) (is : b ≡ octetsAt m 0 (length hs / 10)) where
+  module _ (b : List ℕ) (is : b ≡ octetsAt m (inOctets 0) (length hs / 10)) where
     pub laying-start : (c : Records) → ((i : ℕ) → getD hs i 0 < 256) → verdictOf (fileOf hs ds) ≡ given c → Laying hs ds b (encoded (length hs / 10)) b (length (encoded (length hs / 10))) (length hs / 10) 0 0
     unfolding fileOf
     laying-start c o e =

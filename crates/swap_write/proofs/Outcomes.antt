@@ -9,7 +9,7 @@ use lib.Dec.{ltb}
 use borrow.Author.Tests.{le-leb, lt-leb, ltb-true, ltb-false}
 use Rattle.numbers.specs.declared.Octets.{Octets}
 use Rattle.numbers.specs.Counts.{inOctets}
-use Rattle.numbers.specs.Answer.{given, refusedAt}
+use Rattle.numbers.specs.Answer.{given, refused, refusedAt}
 use Rattle.octets.specs.Splice.{fronted}
 use Rattle.numbers.specs.Table.{wrongLength}
 use Rattle.swap.specs.declared.file.Records.{Records}
@@ -17,19 +17,19 @@ use Rattle.swap.specs.Record.{fileLimit}
 use Rattle.swap.specs.Reading.{verdictOf}
 use Rattle.swap_write.specs.declared.size.Size.the-variants as size
 use Rattle.swap_write.specs.Heads.{fileOf}
-use Rattle.swap_write.specs.Writing.{writing, judgedWriting, laid, wrote, short, faulty, sizeOf}
+use Rattle.swap_write.specs.Writing.{writing, judgedWriting, laid, sizeOf}
 
 module _ (hs ds b : List ℕ) where
-  pub writing-refused : (n : ℕ) (o : Octets) → refusedAt n o ≡ verdictOf (fileOf hs ds) → record { answer = faulty n o; buffer = b } ≡ writing hs ds b
+  pub writing-refused : (n : ℕ) (o : Octets) → refusedAt n o ≡ verdictOf (fileOf hs ds) → record { answer = refusedAt n o; buffer = b } ≡ writing hs ds b
   unfolding writing judgedWriting
   writing-refused n o e = rw (← e)
 
   module _ (c : Records) (e : given c ≡ verdictOf (fileOf hs ds)) where
-    pub writing-short : length b < length (fileOf hs ds) → record { answer = short wrongLength; buffer = b } ≡ writing hs ds b
+    pub writing-short : length b < length (fileOf hs ds) → record { answer = refused wrongLength; buffer = b } ≡ writing hs ds b
     unfolding writing judgedWriting laid
     writing-short h = rw (← e, lt-leb (length (fileOf hs ds)) (length b) h)
 
-    pub writing-whole : length (fileOf hs ds) ≤ length b → record { answer = wrote (inOctets (length (fileOf hs ds))); buffer = fronted (fileOf hs ds) b } ≡ writing hs ds b
+    pub writing-whole : length (fileOf hs ds) ≤ length b → record { answer = given (inOctets (length (fileOf hs ds))); buffer = fronted (fileOf hs ds) b } ≡ writing hs ds b
     unfolding writing judgedWriting laid
     writing-whole h = rw (← e, le-leb (length (fileOf hs ds)) (length b) h)
 

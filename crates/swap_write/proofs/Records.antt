@@ -7,6 +7,7 @@ use lib.ListN.{length, getD, take, drop, length-append}
 use lib.Seq.{take-at, drop-at, getD-drop}
 use borrow.Author.Tests.{le-leb}
 use Rattle.numbers.specs.Counts.{inOctets}
+use Rattle.numbers.specs.Answer.{given}
 use Rattle.octets.specs.Splice.{fronted}
 use Rattle.octets.proofs.Splice.{take-fronted}
 use Rattle.number.specs.Groups.{encoded}
@@ -16,7 +17,7 @@ use Rattle.swap.specs.Reading.{readFile, listed, verdictOf, inRecords}
 use Rattle.swap.proofs.Encoded.{all-octets}
 use Rattle.swap.proofs.RoundTrip.{read-encode, encode-read, encoding-accepted}
 use Rattle.swap_write.specs.Heads.{headOf, headsOf, contentsOf, headLength, frontOctets, bodyOf, fileOf}
-use Rattle.swap_write.specs.Writing.{writing, wrote}
+use Rattle.swap_write.specs.Writing.{writing}
 use Rattle.swap_write.proofs.Outcomes.{writing-whole}
 
 -- the head of a record, with others behind it
@@ -75,13 +76,13 @@ file-encode rs s =
     rw (n, body-records s)
 
 -- records within all rules are written whole where the buffer has room
-pub write-whole : (rs : List Record) (b : List ℕ) → Within rs → length (encode rs) ≤ length b → writing (headsOf rs) (contentsOf rs) b ≡ record { answer = wrote (inOctets (length (encode rs))); buffer = fronted (encode rs) b }
+pub write-whole : (rs : List Record) (b : List ℕ) → Within rs → length (encode rs) ≤ length b → writing (headsOf rs) (contentsOf rs) b ≡ record { answer = given (inOctets (length (encode rs))); buffer = fronted (encode rs) b }
 write-whole rs b h k =
     let e : fileOf (headsOf rs) (contentsOf rs) ≡ encode rs = file-encode rs (all-octets (h .sound)) in
     sym (writing-whole (headsOf rs) (contentsOf rs) b (inRecords (length rs)) (sym (ap verdictOf e ∙ encoding-accepted rs h)) (rw e k)) ∙ rw e
 
 -- records read from an accepted file and written give the same octets
-pub read-write : (s : List ℕ) (rs : List Record) (b : List ℕ) → ((i : ℕ) → getD s i 0 < 256) → readFile s ≡ listed rs → length s ≤ length b → writing (headsOf rs) (contentsOf rs) b ≡ record { answer = wrote (inOctets (length s)); buffer = fronted s b }
+pub read-write : (s : List ℕ) (rs : List Record) (b : List ℕ) → ((i : ℕ) → getD s i 0 < 256) → readFile s ≡ listed rs → length s ≤ length b → writing (headsOf rs) (contentsOf rs) b ≡ record { answer = given (inOctets (length s)); buffer = fronted s b }
 read-write s rs b o e k =
     let f = read-encode s rs o e in
     rw (f .0) (write-whole rs b (f .1) (rw (← f .0) k))

@@ -18,35 +18,29 @@ use Rattle.swap_write.specs.declared.size.Size.{Size}
 use Rattle.swap_write.specs.declared.size.Size.the-variants as size
 use Rattle.swap_write.specs.Heads.{fileOf}
 
--- the length of the file written, 17, or 18 with an offset
-pub data Writing : Type 0 where
-  wrote : Octets → Writing
-  short : ℕ → Writing
-  faulty : ℕ → Octets → Writing
-
--- the number and values of each case
-abbrev pub answerOfWritten : Written → Writing
-answerOfWritten (Whole length) = wrote length
-answerOfWritten (Fault offset) = faulty faultyFile offset
-answerOfWritten Short = short wrongLength
+-- the number and values of each case: the length of the file written, 18 with an offset, or 17
+abbrev pub answerOfWritten : Written → Answer Octets
+answerOfWritten (Whole length) = given length
+answerOfWritten (Fault offset) = refusedAt faultyFile offset
+answerOfWritten Short = refused wrongLength
 
 -- the answer, and the buffer after the call
 pub record Outcome : Type 0 where
-  pub answer : Writing
+  pub answer : Answer Octets
   pub buffer : List ℕ
 
 -- a file that the reader accepts goes to the front of the buffer, where it fits
 unfoldable pub laid : List ℕ → List ℕ → Outcome
 laid file buffer =
     cond (leb (length file) (length buffer))
-    (record { answer = wrote (inOctets (length file)); buffer = fronted file buffer })
-    (record { answer = short wrongLength; buffer = buffer })
+    (record { answer = given (inOctets (length file)); buffer = fronted file buffer })
+    (record { answer = refused wrongLength; buffer = buffer })
 
 -- 01, Swap file: 18 and the reader's offset, "then a buffer too short for the file with 17; both leave the buffer"
 unfoldable pub judgedWriting : Answer Records → List ℕ → List ℕ → Outcome
 judgedWriting (given count) file buffer = laid file buffer
-judgedWriting (refused n) file buffer = record { answer = short n; buffer = buffer }
-judgedWriting (refusedAt n offset) file buffer = record { answer = faulty n offset; buffer = buffer }
+judgedWriting (refused n) file buffer = record { answer = refused n; buffer = buffer }
+judgedWriting (refusedAt n offset) file buffer = record { answer = refusedAt n offset; buffer = buffer }
 
 unfoldable pub writing : List ℕ → List ℕ → List ℕ → Outcome
 writing heads contents buffer = judgedWriting (verdictOf (fileOf heads contents)) (fileOf heads contents) buffer

@@ -4,14 +4,17 @@ ghost use Prim.Native.Nat.{_+_, _*_, _≤_, _<_};
 ghost use lib.ListN.{length};
 ghost use Rattle.swap.specs.Reading.{answerOfVerdict, verdictOf, answered, readRecords};
 ghost use Rattle.number.specs.Groups.{encoded};
-ghost use Rattle.swap_write.specs.Heads.{bodyOf, fileOf};
+ghost use Rattle.swap.specs.Record.{fileLimit};
+ghost use Rattle.swap_write.specs.Heads.{headSize, bodyOf, fileOf};
 ghost use Rattle.swap_write.specs.Heading.{headJudged, dataJudged};
+use crate::size::HEAD_SIZE;
 use crate::size::head_length;
 use crate::size::width_of;
 use numbers::Octets;
 use swap::Records;
 use swap::Verdict;
-use swap::item::key;
+use swap::file::COUNT_LIMIT;
+use swap::item::rank;
 use swap::kind::Kind;
 use swap::kind::is_acceptable;
 use swap::kind::kind_of;
@@ -20,17 +23,17 @@ use swap::kind::length_limit;
 
 // What a head with its data makes: a record of so many octets of data, or a record whose first bad item stands so far from its start.
 pub enum Head {
-    Good(usize),
-    Bad(usize),
+    Good(Octets),
+    Bad(Octets),
 }
 
 // The verdict on a would-be file that is not too long.
 pub(crate) fn judge(heads: &[u8], contents: &[u8]) -> Verdict
-    requires { ⌜ length (fileOf (now heads) (now contents)) ≤ 65536 ⌝ }
+    requires { ⌜ length (fileOf (now heads) (now contents)) ≤ fileLimit ⌝ }
     ensures { λ r. ⌜ answerOfVerdict r ≡ verdictOf (fileOf (now (heads .entry)) (now (contents .entry))) ⌝ }
 {
-    let count = heads.len() / 10;
-    if 4096 < count {
+    let count = heads.len() / HEAD_SIZE;
+    if COUNT_LIMIT < count {
         return Verdict::Fault(Octets(0));
     }
     judge_heads(heads, contents, count)
@@ -38,7 +41,7 @@ pub(crate) fn judge(heads: &[u8], contents: &[u8]) -> Verdict
 
 // So many heads with their data, and nothing left over.
 fn judge_heads(heads: &[u8], contents: &[u8], count: usize) -> Verdict
-    requires { ⌜ (count * 10 ≤ length (now heads)) × (length (encoded count) + length (bodyOf count (now heads) (now contents)) ≤ 65536) ⌝ }
+    requires { ⌜ (count * headSize ≤ length (now heads)) × (length (encoded count) + length (bodyOf count (now heads) (now contents)) ≤ fileLimit) ⌝ }
     ensures { λ r. ⌜ answerOfVerdict r ≡ answered (readRecords count 0 (length (encoded count)) (bodyOf count (now (heads .entry)) (now (contents .entry)))) ⌝ }
 {
     let mut at = width_of(count);
@@ -50,12 +53,13 @@ fn judge_heads(heads: &[u8], contents: &[u8], count: usize) -> Verdict
         let judged = judge_head(&heads[head..], &contents[from..], least);
         match judged {
             Head::Bad(offset) => {
-                return Verdict::Fault(Octets(at + offset));
+                return Verdict::Fault(Octets(at + offset.0));
             }
-            Head::Good(length) => {
-                least = key(&heads[head..]) + 1;
+            Head::Good(stated) => {
+                let length = stated.0;
+                least = rank(&heads[head..]) + 1;
                 at += 8 + width_of(length) + length;
-                head += 10;
+                head += HEAD_SIZE;
                 from += length;
                 left -= 1;
             }
@@ -72,31 +76,32 @@ fn judge_heads(heads: &[u8], contents: &[u8], count: usize) -> Verdict
 
 // The head at the front, with its data at the front of the contents.
 fn judge_head(heads: &[u8], contents: &[u8], least: u64) -> Head
-    requires { ⌜ 10 ≤ length (now heads) ⌝ }
+    requires { ⌜ headSize ≤ length (now heads) ⌝ }
     ensures { λ r. ⌜ r ≡ headJudged least (now (heads .entry)) (now (contents .entry)) ⌝ }
 {
-    if key(heads) < least {
-        return Head::Bad(0);
+    if rank(heads) < least {
+        return Head::Bad(Octets(0));
     }
     if !known(heads[7]) {
-        return Head::Bad(7);
+        return Head::Bad(Octets(7));
     }
     judge_data(kind_of(heads[7]), head_length(heads), contents)
 }
 
 // A length and the data of a record of this kind.
-fn judge_data(kind: Kind, length: usize, contents: &[u8]) -> Head
-    ensures { λ r. ⌜ r ≡ dataJudged kind «length» (now (contents .entry)) ⌝ }
+fn judge_data(kind: Kind, stated: Octets, contents: &[u8]) -> Head
+    ensures { λ r. ⌜ r ≡ dataJudged kind (stated .0) (now (contents .entry)) ⌝ }
 {
+    let length = stated.0;
     let limit = length_limit(kind);
     if limit.0 < length {
-        return Head::Bad(8);
+        return Head::Bad(Octets(8));
     }
     if contents.len() < length {
-        return Head::Bad(8 + width_of(length));
+        return Head::Bad(Octets(8 + width_of(length)));
     }
     if !is_acceptable(kind, &contents[..length]) {
-        return Head::Bad(8 + width_of(length));
+        return Head::Bad(Octets(8 + width_of(length)));
     }
-    Head::Good(length)
+    Head::Good(stated)
 }

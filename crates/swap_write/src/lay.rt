@@ -8,9 +8,11 @@ ghost use Rattle.number.specs.Groups.{encoded};
 ghost use Rattle.octets.specs.Splice.{spliced, fronted};
 ghost use Rattle.swap.specs.declared.file.Records.{Records};
 ghost use Rattle.swap.specs.Reading.{verdictOf};
-ghost use Rattle.swap_write.specs.Heads.{headLength, frontOctets, fileOf};
+ghost use Rattle.swap_write.specs.Heads.{headSize, headLength, frontOctets, fileOf};
+use crate::size::HEAD_SIZE;
 use crate::size::head_length;
 use crate::size::width_of;
+use numbers::Octets;
 
 // The whole of an accepted file, at the front of a buffer that is long enough.
 pub(crate) fn lay(heads: &[u8], contents: &[u8], buffer: &mut [u8])
@@ -18,18 +20,19 @@ pub(crate) fn lay(heads: &[u8], contents: &[u8], buffer: &mut [u8])
     requires { ⌜ length (fileOf (now heads) (now contents)) ≤ length (now buffer) ⌝ }
     ensures { λ _. ⌜ now (buffer .exit) ≡ fronted (fileOf (now (heads .entry)) (now (contents .entry))) (now (buffer .entry)) ⌝ }
 {
-    let count = heads.len() / 10;
-    number::write(buffer, 0, count as u32);
+    let count = heads.len() / HEAD_SIZE;
+    number::write(buffer, Octets(0), count as u32);
     let mut at = width_of(count);
     let mut left = count;
     let mut head: usize = 0;
     let mut from: usize = 0;
     while 0 < left {
-        let length = head_length(&heads[head..]);
+        let stated = head_length(&heads[head..]);
+        let length = stated.0;
         let end = from + length;
         lay_record(&heads[head..], &contents[from..end], buffer, at);
         at += 8 + width_of(length) + length;
-        head += 10;
+        head += HEAD_SIZE;
         from = end;
         left -= 1;
     }
@@ -37,12 +40,13 @@ pub(crate) fn lay(heads: &[u8], contents: &[u8], buffer: &mut [u8])
 
 // A record from an offset on: the fields of the head at the front, and the data.
 fn lay_record(heads: &[u8], content: &[u8], buffer: &mut [u8], at: usize)
-    requires { ⌜ (10 ≤ length (now heads)) × (at + 8 + length (encoded (headLength (now heads))) + length (now content) ≤ length (now buffer)) ⌝ }
+    requires { ⌜ (headSize ≤ length (now heads)) × (at + 8 + length (encoded (headLength (now heads))) + length (now content) ≤ length (now buffer)) ⌝ }
     ensures { λ _. ⌜ now (buffer .exit) ≡ spliced (now (buffer .entry)) at (frontOctets (now (heads .entry)) ++ now (content .entry)) ⌝ }
 {
-    let length = head_length(heads);
+    let stated = head_length(heads);
+    let length = stated.0;
     let from = at + 8 + width_of(length);
     octets::put(buffer, at, &heads[..8]);
-    number::write(buffer, at + 8, length as u32);
+    number::write(buffer, Octets(at + 8), length as u32);
     octets::put(buffer, from, content);
 }

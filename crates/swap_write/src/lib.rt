@@ -4,13 +4,14 @@ ghost use Rattle.swap.specs.Reading.{answerOfVerdict, verdictOf};
 ghost use Rattle.swap_write.specs.Heads.{fileOf};
 ghost use Rattle.swap_write.specs.Writing.{answerOfWritten, writing};
 
-pub mod judge;
-pub mod lay;
+mod judge;
+mod lay;
 pub mod size;
 
 use numbers::Octets;
 use size::Size;
 use swap::Verdict;
+use swap::file::FILE_LIMIT;
 
 // What writing answers: the length of the file, the offset of the first bad item of a file that would be faulty, or that the buffer is too short.
 pub enum Written {
@@ -25,7 +26,7 @@ pub fn verdict(heads: &[u8], contents: &[u8]) -> Verdict
 {
     let size = size::file_size(heads, contents);
     let Size::Within(_) = size else {
-        return Verdict::Fault(Octets(65536));
+        return Verdict::Fault(Octets(FILE_LIMIT));
     };
     judge::judge(heads, contents)
 }
@@ -36,7 +37,7 @@ pub fn write(heads: &[u8], contents: &[u8], buffer: &mut [u8]) -> Written
 {
     let size = size::file_size(heads, contents);
     let Size::Within(length) = size else {
-        return Written::Fault(Octets(65536));
+        return Written::Fault(Octets(FILE_LIMIT));
     };
     let verdict = judge::judge(heads, contents);
     match verdict {

@@ -1,82 +1,64 @@
 // Reads a swap file from standard input and lists its records, or says at which offset it is refused (01, Swap file).
-use label::Text;
 use libc::STDIN_FILENO;
 use libc::STDOUT_FILENO;
+use numbers::Octets;
+use swap::Cursor;
 use swap::Entry;
-use swap::Kind;
 use swap::Next;
-use swap::Verdict;
-use text::put_number;
-use text::put_octets;
-use text::put_words;
+use swap::Started;
+use swap::file::FILE_LIMIT;
+use swap_text::LONGEST_LINE;
+use swap_text::put_count;
+use swap_text::put_record;
+use swap_text::put_refusal;
 
 fn main() {
     // One octet more than the longest file, so that a longer one is seen to be too long.
-    let mut buffer = [0u8; 65537];
+    let mut buffer = [0u8; FILE_LIMIT + 1];
     let length = io::read_full(STDIN_FILENO, &mut buffer);
     list(&buffer[..length]);
 }
 
 fn list(file: &[u8]) {
-    let verdict = swap::judge(file);
-    match verdict {
-        Verdict::Fault(offset) => print_number(b"refused 18 at ", offset.0),
-        Verdict::Accepted(records) => {
-            print_number(b"records ", records.0);
-            list_records(file, records.0);
+    let mut line = [0u8; LONGEST_LINE];
+    let started = swap::cursor::start(file);
+    match started {
+        Started::Fault(offset) => {
+            let end = put_refusal(&mut line, Octets(0), offset);
+            print(&line, end);
+        }
+        Started::First(cursor) => {
+            let records = cursor.left;
+            let end = put_count(&mut line, Octets(0), records);
+            print(&line, end);
+            list_records(file, cursor);
         }
     }
 }
 
-// A line that is words and a number.
-fn print_number(words: &[u8], n: usize) {
-    let mut line = [0u8; 64];
-    let next = put_number(&mut line, 0, words, n as u64);
-    let end = put_words(&mut line, next, b"\n");
-    io::write_all(STDOUT_FILENO, octets::part(&line, 0, end));
-}
-
-// A line for each of so many records.
-fn list_records(file: &[u8], count: usize) {
-    let mut cursor = swap::cursor::start(file);
-    let mut left = count;
-    while 0 < left {
+// A line for each record from the cursor on.
+fn list_records(file: &[u8], first: Cursor) {
+    let mut cursor = first;
+    loop {
         let next = cursor.next(file);
         let Next::Record(entry, after) = next else {
             return;
         };
         list_record(file, entry);
         cursor = after;
-        left -= 1;
     }
 }
 
 fn list_record(file: &[u8], entry: Entry) {
+    let mut line = [0u8; LONGEST_LINE];
     let ads = swap::cursor::ads(file, entry);
-    let mut line = [0u8; 128];
-    let tab_at = put_octets(&mut line, 0, b"", &ads);
-    let kind_at = put_octets(&mut line, tab_at, b" ", &[entry.tab]);
-    let next = put_kind(&mut line, kind_at, file, entry);
-    let end = put_words(&mut line, next, b"\n");
-    io::write_all(STDOUT_FILENO, octets::part(&line, 0, end));
-}
-
-// A record's kind and counts.
-fn put_kind(line: &mut [u8], at: usize, file: &[u8], entry: Entry) -> usize {
     let kind = entry.kind;
     let content = swap::cursor::content(file, entry);
-    match kind {
-        Kind::Raw => put_number(line, at, b" raw octets ", content.len() as u64),
-        Kind::Label => put_label(line, at, content),
-    }
+    let end = put_record(&mut line, Octets(0), ads, entry.tab, kind, content);
+    print(&line, end);
 }
 
-// A label's two counts.
-fn put_label(line: &mut [u8], at: usize, content: &[u8]) -> usize {
-    let next = put_number(line, at, b" label octets ", content.len() as u64);
-    let measured = label::measure(content);
-    let Text::WellFormed(characters) = measured else {
-        return next;
-    };
-    put_number(line, next, b" characters ", characters.0 as u64)
+// The octets of a line up to its end.
+fn print(line: &[u8], end: Octets) {
+    io::write_all(STDOUT_FILENO, octets::part(line, 0, end.0));
 }

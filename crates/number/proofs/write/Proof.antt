@@ -10,10 +10,10 @@ use Rattle.number.proofs.write.Statement.{statement}
 use Rattle.number.proofs.write.Tie as tie
 
 abbrev Inv-loop : tie.InvT-loop
-Inv-loop octets₀ at n size room rest₀ next₀ octets rest next = (j : ℕ) × ((k : ℕ) × Laid octets₀ at n octets rest next j k)
+Inv-loop octets₀ n start size room rest₀ next₀ octets rest next = (j : ℕ) × ((k : ℕ) × Laid octets₀ start n octets rest next j k)
 
 abbrev μ-loop : tie.MeasureT-loop
-μ-loop octets₀ at n size room rest₀ next₀ octets rest next = rest
+μ-loop octets₀ n start size room rest₀ next₀ octets rest next = rest
 
 width-requires : tie.Need-width-requires Inv-loop μ-loop
 width-requires c κs = search needs
@@ -21,19 +21,19 @@ width-requires c κs = search needs
 returns : tie.Need-returns Inv-loop μ-loop
 returns c =
     let a = c .before .before .before .args in
-    let h : length (now (a .octets)) < a .at + length (encoded (a .n)) = omega (arith, c .before .width .ensures, c .if1 .taken) in
-    (short-answer (now (a .octets)) (a .at) (a .n) h, short-octets (now (a .octets)) (a .at) (a .n) h)
+    let h : length (now (a .octets)) < a .at .0 + length (encoded (a .n)) = omega (arith, c .before .width .ensures, c .if1 .taken) in
+    (short-answer (now (a .octets)) (a .at .0) (a .n) h, short-octets (now (a .octets)) (a .at .0) (a .n) h)
 
 returns-2 : tie.Need-returns-2 Inv-loop μ-loop
 returns-2 c =
     let a = c .before .before .before .before .args in
-    let h : length (now (a .octets)) < a .at + length (encoded (a .n)) = omega (arith, c .before .before .width .ensures, c .if2 .taken) in
-    (short-answer (now (a .octets)) (a .at) (a .n) h, short-octets (now (a .octets)) (a .at) (a .n) h)
+    let h : length (now (a .octets)) < a .at .0 + length (encoded (a .n)) = omega (arith, c .before .before .width .ensures, c .if2 .taken) in
+    (short-answer (now (a .octets)) (a .at .0) (a .n) h, short-octets (now (a .octets)) (a .at .0) (a .n) h)
 
 loop-holds : tie.Need-loop-holds Inv-loop μ-loop
 loop-holds c =
     let a = c .before .before .before .before .args in
-    (0, (4, laid-none (now (a .octets)) (a .at) (a .n) (c .before .before .before .before .fits .n .fits) (omega (arith, c .before .before .width .ensures, c .before .if1 .left, c .if2 .left))))
+    (0, (4, laid-none (now (a .octets)) (a .at .0) (a .n) (c .before .before .before .before .fits .n .fits) (omega (arith, c .before .before .width .ensures, c .before .if1 .left, c .if2 .left))))
 
 add-octets : tie.Need-add-octets Inv-loop μ-loop
 add-octets c = search needs
@@ -61,8 +61,8 @@ cast-octets-2 c = omega arith
 slice-write-octets-2 : tie.Need-slice-write-octets-2 Inv-loop μ-loop
 slice-write-octets-2 c = next-within (c .before .loop .inv .1 .1)
 
-add-t9 : tie.Need-add-t9 Inv-loop μ-loop
-add-t9 c = omega (arith, next-within (c .before .loop .inv .1 .1), length-same (c .before .loop .inv .1 .1), c .before .before .before .before .before .before .good)
+add-t11 : tie.Need-add-t11 Inv-loop μ-loop
+add-t11 c = omega (arith, next-within (c .before .loop .inv .1 .1), length-same (c .before .loop .inv .1 .1), c .before .before .before .before .before .before .good)
 
 same-length : tie.Need-same-length Inv-loop μ-loop
 same-length c = simp length-set (length-same (c .before .loop .inv .1 .1))
@@ -92,6 +92,6 @@ write-spec =
     loop-again
     cast-octets-2
     slice-write-octets-2
-    add-t9
+    add-t11
     same-length
     returns-3)

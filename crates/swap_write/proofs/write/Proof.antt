@@ -11,7 +11,7 @@ use Rattle.swap.specs.Record.{fileLimit}
 use Rattle.swap.specs.Reading.{answerOfVerdict}
 use Rattle.swap.proofs.Verdicts.{verdict-long}
 use Rattle.swap_write.specs.Heads.{fileOf}
-use Rattle.swap_write.specs.Writing.{Outcome, wrote}
+use Rattle.swap_write.specs.Writing.{Outcome}
 use Rattle.swap_write.proofs.Outcomes.{writing-refused, writing-short, writing-whole, size-long, size-within}
 use borrow.Author.Needs.{needs}
 use Rattle.swap_write.proofs.write.Statement.{statement}
@@ -82,7 +82,7 @@ returns-4 c =
     let a = j .before .before .before .before .before .before .before .before .args in
     let l = file-length (j .before .before) in
     let e = writing-whole (now (a .heads)) (now (a .contents)) (now (a .buffer)) _ (sym (ap answerOfVerdict (t .enum-told2 .given .1)) ∙ j .judge .ensures) (rw (ap (λ (o : Octets). o .0) (l .1)) at (d .if1 .left)) in
-    (ap wrote (l .1) ∙ ap (λ (o : Outcome). o .answer) e, y .lay .ensures ∙ ap (λ (o : Outcome). o .buffer) e)
+    (ap (λ (o : Octets). given o) (l .1) ∙ ap (λ (o : Outcome). o .answer) e, y .lay .ensures ∙ ap (λ (o : Outcome). o .buffer) e)
 
 pub write-spec : {M : Type 1} → statement M
 write-spec =

@@ -11,7 +11,7 @@ use Rattle.swap.proofs.cursor.ads.Statement.{statement}
 use Rattle.swap.proofs.cursor.ads.Tie as tie
 
 returns : tie.Need-returns
-returns c = let a = c .before .before .args in ads-none (now (a .file)) (a .entry) (omega arith)
+returns c = let a = c .before .before .before .args in ads-none (now (a .file)) (a .entry) (omega arith)
 
 sub-part : tie.Need-sub-part
 sub-part c = search needs
@@ -30,10 +30,10 @@ six-requires c κs = search needs
 
 returns-2 : tie.Need-returns-2
 returns-2 c =
-    let a = c .before .before .before .before .before .args in
+    let a = c .before .before .before .before .before .before .args in
     c .six .ensures
     ∙ ap (spliced (replicate 6 0) 0) (c .before .part .ensures)
-    ∙ ads-six (now (a .file)) (a .entry) _ (part-rest (now (a .file)) (a .entry .at)) (omega arith)
+    ∙ ads-six (now (a .file)) (a .entry) _ (part-rest (now (a .file)) (a .entry .at .0)) (omega arith)
 
 pub ads-spec : {M : Type 1} → statement M
 ads-spec =

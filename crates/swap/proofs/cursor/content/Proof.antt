@@ -10,7 +10,7 @@ slice-aggregate-result : tie.Need-slice-aggregate-result
 slice-aggregate-result c = search needs
 
 returns : tie.Need-returns
-returns c = let a = c .before .before .before .args in content-none (now (a .file)) (a .entry) (omega arith)
+returns c = let a = c .before .before .before .before .args in content-none (now (a .file)) (a .entry) (omega arith)
 
 sub-if2 : tie.Need-sub-if2
 sub-if2 c = search needs
@@ -19,7 +19,7 @@ slice-aggregate-result-2 : tie.Need-slice-aggregate-result-2
 slice-aggregate-result-2 c = search needs
 
 returns-2 : tie.Need-returns-2
-returns-2 c = let a = c .before .before .before .before .args in content-none (now (a .file)) (a .entry) (omega arith)
+returns-2 c = let a = c .before .before .before .before .before .args in content-none (now (a .file)) (a .entry) (omega arith)
 
 add-end : tie.Need-add-end
 add-end c = search needs
@@ -34,7 +34,7 @@ part-result-end : tie.Need-part-result-end
 part-result-end c = search needs
 
 returns-3 : tie.Need-returns-3
-returns-3 c = let a = c .before .before .before .before .args in content-part (now (a .file)) (a .entry) (omega arith)
+returns-3 c = let a = c .before .before .before .before .before .args in content-part (now (a .file)) (a .entry) (omega arith)
 
 pub content-spec : {M : Type 1} → statement M
 content-spec =

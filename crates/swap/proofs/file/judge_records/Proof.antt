@@ -4,9 +4,9 @@ use mathlib.Core.Path.{_≡_, sym, ap, _∙_}
 use mathlib.Core.List.{List}
 use lib.ListN.{length, getD, take, drop}
 use denote.Ref.{now}
-use Rattle.swap.specs.Record.{keyOf}
+use Rattle.swap.specs.Record.{rankOf}
 use Rattle.swap.specs.Reading.{answered, readRecords}
-use Rattle.swap.proofs.Keys.{key-rest-below}
+use Rattle.swap.proofs.Ranks.{rank-rest-below}
 use Rattle.swap.proofs.Parts.{part-rest}
 use Rattle.swap.proofs.Tally.{Tallied, tally-start, tally-bad, tally-good, tally-rest, tally-end}
 use borrow.Author.Needs.{needs}
@@ -21,7 +21,7 @@ abbrev μ-loop : tie.MeasureT-loop
 μ-loop file start count at₀ left₀ least₀ at left least = left
 
 -- the tally after a good record
-next-tally : (c : tie.After-known-told2 Inv-loop μ-loop) → let l = c .before .before .before .before .before .loop in let a = c .before .before .before .before .before .before .before .args in let e = c .before .item2 .given .0 .0 in Tallied (now (a .file)) (a .count) (answered (readRecords (a .count) 0 (a .start) (drop (a .start) (now (a .file))))) (e .from + e .length .0) (l .left - 1) (keyOf (take 7 (drop (l .at) (now (a .file)))) + 1)
+next-tally : (c : tie.After-known-told2 Inv-loop μ-loop) → let l = c .before .before .before .before .before .loop in let a = c .before .before .before .before .before .before .before .args in let e = c .before .item2 .given .0 .0 in Tallied (now (a .file)) (a .count) (answered (readRecords (a .count) 0 (a .start) (drop (a .start) (now (a .file))))) (e .from .0 + e .length .0) (l .left - 1) (rankOf (take 7 (drop (l .at) (now (a .file)))) + 1)
 next-tally c =
     let i = c .before .before .before in
     let l = i .before .before .loop in
@@ -45,17 +45,17 @@ returns c =
 enum-known-item-2 : tie.Need-enum-known-item-2 Inv-loop μ-loop
 enum-known-item-2 c = search needs
 
-sub-key : tie.Need-sub-key Inv-loop μ-loop
-sub-key c = search needs
+sub-rank : tie.Need-sub-rank Inv-loop μ-loop
+sub-rank c = search needs
 
-part-key-start : tie.Need-part-key-start Inv-loop μ-loop
-part-key-start c = search needs
+part-rank-start : tie.Need-part-rank-start Inv-loop μ-loop
+part-rank-start c = search needs
 
-part-key-end : tie.Need-part-key-end Inv-loop μ-loop
-part-key-end c = search needs
+part-rank-end : tie.Need-part-rank-end Inv-loop μ-loop
+part-rank-end c = search needs
 
-key-requires : tie.Need-key-requires Inv-loop μ-loop
-key-requires c κs = search needs
+rank-requires : tie.Need-rank-requires Inv-loop μ-loop
+rank-requires c κs = search needs
 
 add-least : tie.Need-add-least Inv-loop μ-loop
 add-least c =
@@ -63,11 +63,11 @@ add-least c =
     let k = c .before .before .before .before .before .before .before .before in
     let s = now (k .before .args .file) in
     let octets : (j : ℕ) → getD s j 0 < 256 = λ j. k .shared-slice-known .given j .fits in
-    let e : c .key .result ≡ keyOf (take 7 (drop (l .at) s)) = c .key .ensures ∙ ap (λ (t : List ℕ). keyOf (take 7 t)) (part-rest s (l .at)) in
-    omega (arith, e, key-rest-below s (l .at) octets)
+    let e : c .rank .result ≡ rankOf (take 7 (drop (l .at) s)) = c .rank .ensures ∙ ap (λ (t : List ℕ). rankOf (take 7 t)) (part-rest s (l .at)) in
+    omega (arith, e, rank-rest-below s (l .at) octets)
 
 add-at : tie.Need-add-at Inv-loop μ-loop
-add-at c = omega (arith, next-tally (c .before .before .before .before .before) .within)
+add-at c = omega (arith, next-tally (c .before .before .before .before .before .before) .within)
 
 sub-left : tie.Need-sub-left Inv-loop μ-loop
 sub-left c = search needs
@@ -77,10 +77,10 @@ loop-less c = search needs
 
 loop-again : tie.Need-loop-again Inv-loop μ-loop
 loop-again c =
-    let l = c .before .before .before .before .before .before .before .before .before .before .loop in
-    let s = now (c .before .before .before .before .before .before .before .before .before .before .before .before .args .file) in
-    let e : c .before .before .before .key .result ≡ keyOf (take 7 (drop (l .at) s)) = c .before .before .before .key .ensures ∙ ap (λ (t : List ℕ). keyOf (take 7 t)) (part-rest s (l .at)) in
-    rw e (next-tally (c .before .before .before .before .before))
+    let l = c .before .before .before .before .before .before .before .before .before .before .before .loop in
+    let s = now (c .before .before .before .before .before .before .before .before .before .before .before .before .before .args .file) in
+    let e : c .before .before .before .before .rank .result ≡ rankOf (take 7 (drop (l .at) s)) = c .before .before .before .before .rank .ensures ∙ ap (λ (t : List ℕ). rankOf (take 7 t)) (part-rest s (l .at)) in
+    rw e (next-tally (c .before .before .before .before .before .before))
 
 returns-2 : tie.Need-returns-2 Inv-loop μ-loop
 returns-2 c =
@@ -105,10 +105,10 @@ judge-records-spec =
     enum-known-item
     returns
     enum-known-item-2
-    sub-key
-    part-key-start
-    part-key-end
-    key-requires
+    sub-rank
+    part-rank-start
+    part-rank-end
+    rank-requires
     add-least
     add-at
     sub-left

@@ -4,6 +4,7 @@ use mathlib.Core.Path.{_≡_, sym, ap, _∙_}
 use lib.ListN.{length, take, drop, length-drop}
 use borrow.Author.Tests.{not-true, not-false}
 use denote.Ref.{now}
+use Rattle.numbers.specs.Counts.{inOctets}
 use Rattle.number.specs.Groups.{frontOf, found}
 use Rattle.number.specs.Answers.{answerOfReading}
 use Rattle.number.proofs.Forms.{read-front, read-faulty}
@@ -17,26 +18,26 @@ use Rattle.swap.proofs.item.content_at.Statement.{statement}
 use Rattle.swap.proofs.item.content_at.Tie as tie
 
 -- the length that was read, as the number at the front, and the offset after it
-length-read : (c : tie.After-value) → let a = c .before .before .before .before .args in (w : ℕ) × (frontOf (drop (a .at + 8) (now (a .file))) ≡ found (c .value .given .0 .0) w) × (c .value .given .0 .1 .0 ≡ a .at + 8 + w)
+length-read : (c : tie.After-value) → let a = c .before .before .before .before .args in (w : ℕ) × (frontOf (drop (a .at + 8) (now (a .file))) ≡ found (c .value .given .0 .0) w) × (c .value .given .0 .1 .0 .0 ≡ a .at + 8 + w)
 length-read c =
     let a = c .before .before .before .before .args in
-    read-front (now (a .file)) (a .at + 8) (c .value .given .0 .0) (c .value .given .0 .1 .0) (sym (c .before .before .read .ensures) ∙ ap (answerOfReading (a .at + 8)) (c .value .given .1))
+    read-front (now (a .file)) (a .at + 8) (c .value .given .0 .0) (c .value .given .0 .1 .0 .0) (sym (c .before .before .read .ensures) ∙ ap (answerOfReading (inOctets (a .at + 8))) (c .value .given .1))
 
-next-within : (c : tie.After-value) → c .value .given .0 .1 .0 ≤ length (now (c .before .before .before .before .args .file))
+next-within : (c : tie.After-value) → c .value .given .0 .1 .0 .0 ≤ length (now (c .before .before .before .before .args .file))
 next-within c =
     let a = c .before .before .before .before .args in
     let r = length-read c in
     omega (arith, r .2, front-within _ _ _ (r .1) .0, front-within _ _ _ (r .1) .1, length-drop (a .at + 8) (now (a .file)))
 
 -- what was judged of the data
-content-judged : (c : tie.After-is-acceptable) → let v = c .before .before .before .before .before .before .before in let a = v .before .before .before .before .args in c .is-acceptable .result ≡ acceptable (a .kind) (take (v .value .given .0 .0) (drop (v .value .given .0 .1 .0) (now (a .file))))
+content-judged : (c : tie.After-is-acceptable) → let v = c .before .before .before .before .before .before .before in let a = v .before .before .before .before .args in c .is-acceptable .result ≡ acceptable (a .kind) (take (v .value .given .0 .0) (drop (v .value .given .0 .1 .0 .0) (now (a .file))))
 content-judged c =
     let v = c .before .before .before .before .before .before .before in
     let a = v .before .before .before .before .args in
-    c .is-acceptable .ensures ∙ ap (acceptable (a .kind)) (part-count (now (a .file)) (v .value .given .0 .1 .0) (v .value .given .0 .0))
+    c .is-acceptable .ensures ∙ ap (acceptable (a .kind)) (part-count (now (a .file)) (v .value .given .0 .1 .0 .0) (v .value .given .0 .0))
 
-add-read : tie.Need-add-read
-add-read c = search needs
+add-if2 : tie.Need-add-if2
+add-if2 c = search needs
 
 read-requires : tie.Need-read-requires
 read-requires c κs = search needs
@@ -47,22 +48,16 @@ enum-known-value c = search needs
 enum-told : tie.Need-enum-told
 enum-told c = search needs
 
-add-t11 : tie.Need-add-t11
-add-t11 c = search needs
-
 returns : tie.Need-returns
 returns c =
     let a = c .before .before .before .before .args in
-    content-none (a .kind) (now (a .file)) (a .at) (read-faulty (now (a .file)) (a .at + 8) (sym (c .before .before .read .ensures) ∙ ap (answerOfReading (a .at + 8)) (c .enum-told .given .1)))
+    content-none (a .kind) (now (a .file)) (a .at) (read-faulty (now (a .file)) (a .at + 8) (sym (c .before .before .read .ensures) ∙ ap (answerOfReading (inOctets (a .at + 8))) (c .enum-told .given .1)))
 
 cast-count : tie.Need-cast-count
 cast-count c = search needs
 
 length-limit-requires : tie.Need-length-limit-requires
 length-limit-requires c κs = search needs
-
-add-t13 : tie.Need-add-t13
-add-t13 c = search needs
 
 returns-2 : tie.Need-returns-2
 returns-2 c =
@@ -110,8 +105,8 @@ returns-4 c =
 add-t14 : tie.Need-add-t14
 add-t14 c = search needs
 
-shared-slice-read-t20 : tie.Need-shared-slice-read-t20
-shared-slice-read-t20 c = search needs
+shared-slice-read-t21 : tie.Need-shared-slice-read-t21
+shared-slice-read-t21 c = search needs
 
 returns-5 : tie.Need-returns-5
 returns-5 c =
@@ -128,15 +123,13 @@ pub content-at-spec : {M : Type 1} → statement M
 content-at-spec =
     tie.close
     (tie.spec
-    add-read
+    add-if2
     read-requires
     enum-known-value
     enum-told
-    add-t11
     returns
     cast-count
     length-limit-requires
-    add-t13
     returns-2
     sub-if2
     returns-3
@@ -147,5 +140,5 @@ content-at-spec =
     is-acceptable-requires
     returns-4
     add-t14
-    shared-slice-read-t20
+    shared-slice-read-t21
     returns-5)

@@ -25,17 +25,17 @@ returns c =
     let s = now (a .file) in
     item-cut (a .least) s (a .at) _ (part-rest s (a .at)) (omega (arith, c .if1 .taken, length-rest s (a .at)))
 
-key-requires : tie.Need-key-requires
-key-requires c κs = search needs
+rank-requires : tie.Need-rank-requires
+rank-requires c κs = search needs
 
 returns-2 : tie.Need-returns-2
 returns-2 c =
     let a = c .before .before .before .before .before .args in
     let s = now (a .file) in
-    item-low (a .least) s (a .at) _ (part-rest s (a .at)) (rw (← c .before .key .ensures) (c .if2 .taken))
+    item-low (a .least) s (a .at) _ (part-rest s (a .at)) (rw (← c .before .rank .ensures) (c .if2 .taken))
 
-add-t10 : tie.Need-add-t10
-add-t10 c = search needs
+add-t12 : tie.Need-add-t12
+add-t12 c = search needs
 
 returns-3 : tie.Need-returns-3
 returns-3 c =
@@ -43,7 +43,7 @@ returns-3 c =
     let k = d .before in
     let a = k .before .before .before .before .args in
     let s = now (a .file) in
-    item-short (a .least) s (a .at) _ (part-rest s (a .at)) (omega (arith, k .before .if1 .left, length-rest s (a .at))) (rw (← k .key .ensures) (d .if2 .left)) (omega (arith, c .if3 .taken, length-rest s (a .at)))
+    item-short (a .least) s (a .at) _ (part-rest s (a .at)) (omega (arith, k .before .if1 .left, length-rest s (a .at))) (rw (← k .rank .ensures) (d .if2 .left)) (omega (arith, c .if3 .taken, length-rest s (a .at)))
 
 shared-slice-read-known : tie.Need-shared-slice-read-known
 shared-slice-read-known c = search needs
@@ -51,8 +51,8 @@ shared-slice-read-known c = search needs
 known-requires : tie.Need-known-requires
 known-requires c κs = search needs
 
-add-t14 : tie.Need-add-t14
-add-t14 c = search needs
+add-t17 : tie.Need-add-t17
+add-t17 c = search needs
 
 returns-4 : tie.Need-returns-4
 returns-4 c =
@@ -60,7 +60,7 @@ returns-4 c =
     let k = d .before in
     let a = k .before .before .before .before .args in
     let s = now (a .file) in
-    item-unknown (a .least) s (a .at) _ (part-rest s (a .at)) (omega (arith, k .before .if1 .left, length-rest s (a .at))) (rw (← k .key .ensures) (d .if2 .left)) (sym (c .before .known .ensures) ∙ not-true _ (c .if4 .taken))
+    item-unknown (a .least) s (a .at) _ (part-rest s (a .at)) (omega (arith, k .before .if1 .left, length-rest s (a .at))) (rw (← k .rank .ensures) (d .if2 .left)) (sym (c .before .known .ensures) ∙ not-true _ (c .if4 .taken))
 
 shared-slice-read-kind-of : tie.Need-shared-slice-read-kind-of
 shared-slice-read-kind-of c = search needs
@@ -81,7 +81,7 @@ returns-5 c =
     let s = now (a .file) in
     c .content-at .ensures
     ∙ ap (λ v. contentAt v s (a .at)) (c .before .kind-of .ensures)
-    ∙ item-content (a .least) s (a .at) _ (part-rest s (a .at)) (omega (arith, k .before .if1 .left, length-rest s (a .at))) (rw (← k .key .ensures) (d .if2 .left)) (omega (arith, e .if3 .left, length-rest s (a .at))) (sym (h .before .known .ensures) ∙ not-false _ (h .if4 .left))
+    ∙ item-content (a .least) s (a .at) _ (part-rest s (a .at)) (omega (arith, k .before .if1 .left, length-rest s (a .at))) (rw (← k .rank .ensures) (d .if2 .left)) (omega (arith, e .if3 .left, length-rest s (a .at))) (sym (h .before .known .ensures) ∙ not-false _ (h .if4 .left))
 
 pub item-at-spec : {M : Type 1} → statement M
 item-at-spec =
@@ -91,13 +91,13 @@ item-at-spec =
     part-octets-start
     part-octets-end
     returns
-    key-requires
+    rank-requires
     returns-2
-    add-t10
+    add-t12
     returns-3
     shared-slice-read-known
     known-requires
-    add-t14
+    add-t17
     returns-4
     shared-slice-read-kind-of
     kind-of-requires

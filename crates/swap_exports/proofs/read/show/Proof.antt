@@ -26,7 +26,7 @@ returns-2 : tie.Need-returns-2
 returns-2 c = shown-none _ _ _ (c .enum-told2 .given .1)
 
 returns-3 : tie.Need-returns-3
-returns-3 c = shown-record _ _ _ _ _ _ _ (c .before .before .before .before .before .next .given .1) (c .before .before .before .ads .ensures) (c .octet-of .ensures)
+returns-3 c = shown-record _ _ _ _ _ _ _ (c .before .before .before .before .before .before .before .next .given .1) (c .before .before .before .before .before .ads .ensures) (c .octet-of .ensures)
 
 pub show-spec : {M : Type 1} → statement M
 show-spec =

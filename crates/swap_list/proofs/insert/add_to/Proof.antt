@@ -19,8 +19,8 @@ slice-aggregate-place-of c =
     let b = c .before .before .before .before in
     sym (length-take-le (b .args .head-end) (now (b .args .heads)) (omega (arith, b .pre .0 .0, b .pre .1 .0)))
 
-key-requires : tie.Need-key-requires
-key-requires c κs = search needs
+rank-requires : tie.Need-rank-requires
+rank-requires c κs = search needs
 
 place-of-requires : tie.Need-place-of-requires
 place-of-requires c κs =
@@ -80,7 +80,7 @@ returns c =
     let b = c .before .before .before .before .before .before .before .before .before .before .before .before .before .before .before .before .before .before .before .before in
     let ten : length (now (b .args .head)) ≡ 10 = search needs in
     k .add-content .ensures
-    ∙ added-to (now (b .args .head)) (now (b .args .content)) (take (b .args .head-end) (now (b .args .heads))) (take (b .args .content-end) (now (b .args .contents))) (now (b .args .heads)) (now (b .args .contents)) _ _ _ (p .before .key .ensures) (p .place-of .ensures)
+    ∙ added-to (now (b .args .head)) (now (b .args .content)) (take (b .args .head-end) (now (b .args .heads))) (take (b .args .content-end) (now (b .args .contents))) (now (b .args .heads)) (now (b .args .contents)) _ _ _ (p .before .rank .ensures) (p .place-of .ensures)
     (front-inserted (b .args .head-end + 10) (b .args .head-end) _ (now (b .args .heads)) (now (b .args .head)) _ _ (omega (arith, b .pre .0 .0, b .pre .1 .0)) (omega arith) (i .insert .ensures))
 
 pub add-to-spec : {M : Type 1} → statement M
@@ -89,7 +89,7 @@ add-to-spec =
     (tie.spec
     slice-reshare-prefix-place-of
     slice-aggregate-place-of
-    key-requires
+    rank-requires
     place-of-requires
     slice-aggregate-insert
     slice-reshare-prefix-insert

@@ -6,7 +6,7 @@ use native.Mathlib.Omega.{arith}
 use lib.ListN.{getD, take, drop}
 use lib.Dec.{lit<}
 use denote.Ref.{now}
-use Rattle.swap.specs.Record.{keyOf}
+use Rattle.swap.specs.Record.{rankOf}
 use Rattle.swap.proofs.Parts.{part-rest}
 use Rattle.octets.proofs.Below.{below-drop}
 use Rattle.swap_write.specs.Heads.{headLength}
@@ -23,7 +23,7 @@ abbrev μ-loop : tie.MeasureT-loop
 μ-loop heads least left₀ head₀ from₀ left head from = left
 
 -- the length that the head here states, and its bound
-length-stated : (c : tie.After-head-length Inv-loop μ-loop) → let n = headLength (drop (c .before .before .before .before .before .before .loop .head) (now (c .before .before .before .before .before .before .before .before .args .heads))) in (c .head-length .result ≡ n) × (n < 2 ^ 16)
+length-stated : (c : tie.After-head-length Inv-loop μ-loop) → let n = headLength (drop (c .before .before .before .before .before .before .loop .head) (now (c .before .before .before .before .before .before .before .before .args .heads))) in (c .head-length .result .0 ≡ n) × (n < 2 ^ 16)
 length-stated c =
     let l = c .before .before .before .before .before .before in
     let hs = now (l .before .before .args .heads) in
@@ -33,24 +33,24 @@ length-stated c =
 loop-holds : tie.Need-loop-holds Inv-loop μ-loop
 loop-holds c = sought-start _ _
 
-sub-key : tie.Need-sub-key Inv-loop μ-loop
-sub-key c = search needs
+sub-rank : tie.Need-sub-rank Inv-loop μ-loop
+sub-rank c = search needs
 
-part-key-start : tie.Need-part-key-start Inv-loop μ-loop
-part-key-start c = search needs
+part-rank-start : tie.Need-part-rank-start Inv-loop μ-loop
+part-rank-start c = search needs
 
-part-key-end : tie.Need-part-key-end Inv-loop μ-loop
-part-key-end c = search needs
+part-rank-end : tie.Need-part-rank-end Inv-loop μ-loop
+part-rank-end c = search needs
 
-key-requires : tie.Need-key-requires Inv-loop μ-loop
-key-requires c κs = search needs
+rank-requires : tie.Need-rank-requires Inv-loop μ-loop
+rank-requires c κs = search needs
 
 returns : tie.Need-returns Inv-loop μ-loop
 returns c =
     let i = c .before .before .before in
     let l = i .before .loop in
     let hs = now (i .before .before .before .args .heads) in
-    let k : c .before .key .result ≡ keyOf (take 7 (drop (l .head) hs)) = c .before .key .ensures ∙ ap (λ (t : List ℕ). keyOf (take 7 t)) (part-rest hs (l .head)) in
+    let k : c .before .rank .result ≡ rankOf (take 7 (drop (l .head) hs)) = c .before .rank .ensures ∙ ap (λ (t : List ℕ). rankOf (take 7 t)) (part-rest hs (l .head)) in
     sought-here hs _ (l .head) (l .from) (l .left) (l .inv) (i .loop-test .taken) (omega (arith, k, c .if1 .taken))
 
 sub-head-length : tie.Need-sub-head-length Inv-loop μ-loop
@@ -67,8 +67,9 @@ head-length-requires c κs = search needs
 
 add-from : tie.Need-add-from Inv-loop μ-loop
 add-from c =
-    let l = c .before .before .before .before .before .before .loop in
-    omega (arith, l .inv .small, l .inv .heads, length-stated c .0, length-stated c .1, c .before .before .before .before .before .before .before .before .pre)
+    let h = c .before in
+    let l = h .before .before .before .before .before .before .loop in
+    omega (arith, l .inv .small, l .inv .heads, length-stated h .0, length-stated h .1, h .before .before .before .before .before .before .before .before .pre)
 
 add-head : tie.Need-add-head Inv-loop μ-loop
 add-head c = search needs
@@ -81,11 +82,12 @@ loop-less c = search needs
 
 loop-again : tie.Need-loop-again Inv-loop μ-loop
 loop-again c =
-    let i = c .before .before .before .before .before in
+    let h = c .before in
+    let i = h .before .before .before .before .before in
     let l = i .before .loop in
     let hs = now (i .before .before .before .args .heads) in
-    let k : c .before .before .before .key .result ≡ keyOf (take 7 (drop (l .head) hs)) = c .before .before .before .key .ensures ∙ ap (λ (t : List ℕ). keyOf (take 7 t)) (part-rest hs (l .head)) in
-    rw (length-stated c .0) (sought-next hs _ (l .head) (l .from) (l .left) (l .inv) (i .loop-test .taken) (omega (arith, k, c .before .before .if1 .left)) (length-stated c .1))
+    let k : h .before .before .before .rank .result ≡ rankOf (take 7 (drop (l .head) hs)) = h .before .before .before .rank .ensures ∙ ap (λ (t : List ℕ). rankOf (take 7 t)) (part-rest hs (l .head)) in
+    rw (length-stated h .0) (sought-next hs _ (l .head) (l .from) (l .left) (l .inv) (i .loop-test .taken) (omega (arith, k, h .before .before .if1 .left)) (length-stated h .1))
 
 returns-2 : tie.Need-returns-2 Inv-loop μ-loop
 returns-2 c =
@@ -100,10 +102,10 @@ place-of-spec =
     Inv-loop
     μ-loop
     loop-holds
-    sub-key
-    part-key-start
-    part-key-end
-    key-requires
+    sub-rank
+    part-rank-start
+    part-rank-end
+    rank-requires
     returns
     sub-head-length
     part-head-length-start

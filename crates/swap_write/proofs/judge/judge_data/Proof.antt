@@ -2,9 +2,9 @@
 use Prim.Native.Nat.{ℕ, _+_}
 use mathlib.Core.Path.{sym, ap, _∙_}
 use denote.Ref.{now}
-use lib.ListN.{length}
 use lib.Seq.{length-take-le}
 use borrow.Author.Tests.{not-true, not-false}
+use Rattle.numbers.specs.Counts.{inOctets}
 use Rattle.number.proofs.Laying.{encoded-short}
 use Rattle.swap_write.specs.declared.judge.Head.the-variants.{Bad}
 use Rattle.swap_write.proofs.Headed.{data-long, data-cut, data-ill, data-good}
@@ -19,25 +19,25 @@ length-limit-requires c κs = search needs
 returns : tie.Need-returns
 returns c =
     let a = c .before .before .before .before .args in
-    data-long (a .kind) (a .length) (now (a .contents)) (rw (← c .before .before .length-limit .ensures) (c .if1 .taken))
+    data-long (a .kind) (a .stated .0) (now (a .contents)) (rw (← c .before .before .length-limit .ensures) (c .if1 .taken))
 
 width-of-requires : tie.Need-width-of-requires
 width-of-requires c κs = search needs
 
-add-t8 : tie.Need-add-t8
-add-t8 c = omega (arith, c .width-of .ensures, encoded-short (c .before .before .before .before .before .before .args .length))
+add-t10 : tie.Need-add-t10
+add-t10 c = omega (arith, c .width-of .ensures, encoded-short (c .before .before .before .before .before .before .args .stated .0))
 
 returns-2 : tie.Need-returns-2
 returns-2 c =
     let e = c .before .before in
     let a = e .before .before .before .before .args in
-    ap (λ (w : ℕ). Bad (8 + w)) (c .width-of .ensures)
-    ∙ data-cut (a .kind) (a .length) (now (a .contents)) (rw (← e .before .before .length-limit .ensures) (e .if1 .left)) (c .before .if2 .taken)
+    ap (λ (w : ℕ). Bad (inOctets (8 + w))) (c .width-of .ensures)
+    ∙ data-cut (a .kind) (a .stated .0) (now (a .contents)) (rw (← e .before .before .length-limit .ensures) (e .if1 .left)) (c .before .if2 .taken)
 
 slice-aggregate-is-acceptable : tie.Need-slice-aggregate-is-acceptable
 slice-aggregate-is-acceptable c =
     let a = c .before .before .before .before .before .before .args in
-    sym (length-take-le (a .length) (now (a .contents)) (c .before .if2 .left))
+    sym (length-take-le (a .stated .0) (now (a .contents)) (c .before .if2 .left))
 
 is-acceptable-requires : tie.Need-is-acceptable-requires
 is-acceptable-requires c κs = search needs
@@ -45,23 +45,23 @@ is-acceptable-requires c κs = search needs
 width-of-requires-2 : tie.Need-width-of-requires-2
 width-of-requires-2 c κs = search needs
 
-add-t13 : tie.Need-add-t13
-add-t13 c = omega (arith, c .width-of2 .ensures, encoded-short (c .before .before .before .before .before .before .before .before .before .args .length))
+add-t16 : tie.Need-add-t16
+add-t16 c = omega (arith, c .width-of2 .ensures, encoded-short (c .before .before .before .before .before .before .before .before .before .args .stated .0))
 
 returns-3 : tie.Need-returns-3
 returns-3 c =
     let q = c .before .before in
     let e = q .before .before .before in
     let a = e .before .before .before .before .args in
-    ap (λ (w : ℕ). Bad (8 + w)) (c .width-of2 .ensures)
-    ∙ data-ill (a .kind) (a .length) (now (a .contents)) (rw (← e .before .before .length-limit .ensures) (e .if1 .left)) (sym (q .is-acceptable .ensures) ∙ not-true _ (c .before .if3 .taken))
+    ap (λ (w : ℕ). Bad (inOctets (8 + w))) (c .width-of2 .ensures)
+    ∙ data-ill (a .kind) (a .stated .0) (now (a .contents)) (rw (← e .before .before .length-limit .ensures) (e .if1 .left)) (sym (q .is-acceptable .ensures) ∙ not-true _ (c .before .if3 .taken))
 
 returns-4 : tie.Need-returns-4
 returns-4 c =
     let q = c .before in
     let e = q .before .before .before in
     let a = e .before .before .before .before .args in
-    data-good (a .kind) (a .length) (now (a .contents)) (rw (← e .before .before .length-limit .ensures) (e .if1 .left)) (q .before .before .if2 .left) (sym (q .is-acceptable .ensures) ∙ not-false _ (c .if3 .left))
+    data-good (a .kind) (a .stated .0) (now (a .contents)) (rw (← e .before .before .length-limit .ensures) (e .if1 .left)) (q .before .before .if2 .left) (sym (q .is-acceptable .ensures) ∙ not-false _ (c .if3 .left))
 
 pub judge-data-spec : {M : Type 1} → statement M
 judge-data-spec =
@@ -70,11 +70,11 @@ judge-data-spec =
     length-limit-requires
     returns
     width-of-requires
-    add-t8
+    add-t10
     returns-2
     slice-aggregate-is-acceptable
     is-acceptable-requires
     width-of-requires-2
-    add-t13
+    add-t16
     returns-3
     returns-4)

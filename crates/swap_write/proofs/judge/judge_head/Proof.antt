@@ -10,13 +10,13 @@ use borrow.Author.Needs.{needs}
 use Rattle.swap_write.proofs.judge.judge_head.Statement.{statement}
 use Rattle.swap_write.proofs.judge.judge_head.Tie as tie
 
-key-requires : tie.Need-key-requires
-key-requires c κs = search needs
+rank-requires : tie.Need-rank-requires
+rank-requires c κs = search needs
 
 returns : tie.Need-returns
 returns c =
     let a = c .before .before .before .before .args in
-    head-low (a .least) (now (a .heads)) (now (a .contents)) (rw (← c .before .key .ensures) (c .if1 .taken))
+    head-low (a .least) (now (a .heads)) (now (a .contents)) (rw (← c .before .rank .ensures) (c .if1 .taken))
 
 shared-slice-read-known : tie.Need-shared-slice-read-known
 shared-slice-read-known c = search needs
@@ -28,7 +28,7 @@ returns-2 : tie.Need-returns-2
 returns-2 c =
     let e = c .before .before .before in
     let a = e .before .before .before .before .args in
-    head-unknown (a .least) (now (a .heads)) (now (a .contents)) (rw (← e .before .key .ensures) (e .if1 .left)) (sym (c .before .known .ensures) ∙ not-true _ (c .if2 .taken))
+    head-unknown (a .least) (now (a .heads)) (now (a .contents)) (rw (← e .before .rank .ensures) (e .if1 .left)) (sym (c .before .known .ensures) ∙ not-true _ (c .if2 .taken))
 
 shared-slice-read-kind-of : tie.Need-shared-slice-read-kind-of
 shared-slice-read-kind-of c = search needs
@@ -49,13 +49,13 @@ returns-3 c =
     let a = e .before .before .before .before .args in
     c .judge-data .ensures
     ∙ ap₂ (λ (k : Kind) (n : ℕ). dataJudged k n (now (a .contents))) (c .before .before .kind-of .ensures) (c .before .head-length .ensures)
-    ∙ head-data (a .least) (now (a .heads)) (now (a .contents)) (rw (← e .before .key .ensures) (e .if1 .left)) (sym (f .before .known .ensures) ∙ not-false _ (f .if2 .left))
+    ∙ head-data (a .least) (now (a .heads)) (now (a .contents)) (rw (← e .before .rank .ensures) (e .if1 .left)) (sym (f .before .known .ensures) ∙ not-false _ (f .if2 .left))
 
 pub judge-head-spec : {M : Type 1} → statement M
 judge-head-spec =
     tie.close
     (tie.spec
-    key-requires
+    rank-requires
     returns
     shared-slice-read-known
     known-requires

@@ -5,9 +5,9 @@ use mathlib.Core.List.{List}
 use lib.ListN.{length, getD, take, drop}
 use denote.Ref.{now}
 use Rattle.number.specs.Groups.{encoded}
-use Rattle.swap.specs.Record.{keyOf}
+use Rattle.swap.specs.Record.{rankOf}
 use Rattle.swap.specs.Reading.{answered, readRecords}
-use Rattle.swap.proofs.Keys.{key-rest-below}
+use Rattle.swap.proofs.Ranks.{rank-rest-below}
 use Rattle.swap.proofs.Parts.{part-rest, length-rest}
 use Rattle.swap_write.specs.Heads.{bodyOf}
 use Rattle.swap_write.specs.Heading.{headJudged}
@@ -34,15 +34,15 @@ head-judged c =
     let a = c .before .before .before .before .before .before .before .before .args in
     c .judge-head .ensures ∙ ap₂ (headJudged (l .least)) (part-rest (now (a .heads)) (l .head)) (part-rest (now (a .contents)) (l .from))
 
-key-made : (c : tie.After-key Inv-loop μ-loop) → let h = c .before .before .before .before .before in let l = h .before .before .before .before .loop in let a = h .before .before .before .before .before .before .before .before .args in c .key .result ≡ keyOf (take 7 (drop (l .head) (now (a .heads))))
-key-made c =
+rank-made : (c : tie.After-rank Inv-loop μ-loop) → let h = c .before .before .before .before .before in let l = h .before .before .before .before .loop in let a = h .before .before .before .before .before .before .before .before .args in c .rank .result ≡ rankOf (take 7 (drop (l .head) (now (a .heads))))
+rank-made c =
     let h = c .before .before .before .before .before in
     let l = h .before .before .before .before .loop in
     let a = h .before .before .before .before .before .before .before .before .args in
-    c .key .ensures ∙ ap (λ (t : List ℕ). keyOf (take 7 t)) (part-rest (now (a .heads)) (l .head))
+    c .rank .ensures ∙ ap (λ (t : List ℕ). rankOf (take 7 t)) (part-rest (now (a .heads)) (l .head))
 
 -- the tally after a good head
-next-judging : (c : tie.After-judged2 Inv-loop μ-loop) → let h = c .before .before in let l = h .before .before .before .before .loop in let a = h .before .before .before .before .before .before .before .before .args in let n = c .judged2 .given .0 .0 in Judging (now (a .heads)) (now (a .contents)) (a .count) (answered (readRecords (a .count) 0 (length (encoded (a .count))) (bodyOf (a .count) (now (a .heads)) (now (a .contents))))) (l .at + (8 + length (encoded n) + n)) (l .left - 1) (keyOf (take 7 (drop (l .head) (now (a .heads)))) + 1) (l .head + 10) (l .from + n)
+next-judging : (c : tie.After-judged2 Inv-loop μ-loop) → let h = c .before .before in let l = h .before .before .before .before .loop in let a = h .before .before .before .before .before .before .before .before .args in let n = c .judged2 .given .0 .0 .0 in Judging (now (a .heads)) (now (a .contents)) (a .count) (answered (readRecords (a .count) 0 (length (encoded (a .count))) (bodyOf (a .count) (now (a .heads)) (now (a .contents))))) (l .at + (8 + length (encoded n) + n)) (l .left - 1) (rankOf (take 7 (drop (l .head) (now (a .heads)))) + 1) (l .head + 10) (l .from + n)
 next-judging c =
     let h = c .before .before in
     let l = h .before .before .before .before .loop in
@@ -84,33 +84,33 @@ judge-head-requires c κs =
 enum-known-judged : tie.Need-enum-known-judged Inv-loop μ-loop
 enum-known-judged c = search needs
 
-add-t21 : tie.Need-add-t21 Inv-loop μ-loop
-add-t21 c =
-    let h = c .before .before .before in
+add-t22 : tie.Need-add-t22 Inv-loop μ-loop
+add-t22 c =
+    let h = c .before .before .before .before in
     let l = h .before .before .before .before .loop in
-    omega (arith, l .inv .small, head-bad _ _ _ _ (sym (head-judged h) ∙ c .before .judged .given .1))
+    omega (arith, l .inv .small, head-bad _ _ _ _ (sym (head-judged h) ∙ c .before .before .judged .given .1))
 
 returns : tie.Need-returns Inv-loop μ-loop
 returns c =
-    let h = c .before .before .before in
+    let h = c .before .before .before .before in
     let l = h .before .before .before .before .loop in
     let w = h .before .before .before .before .before in
-    judging-bad _ _ (octets-known w) _ _ (l .at) (l .left) (l .least) (l .head) (l .from) _ (l .inv) (h .before .before .before .loop-test .taken) (sym (head-judged h) ∙ c .before .judged .given .1)
+    judging-bad _ _ (octets-known w) _ _ (l .at) (l .left) (l .least) (l .head) (l .from) _ (l .inv) (h .before .before .before .loop-test .taken) (sym (head-judged h) ∙ c .before .before .judged .given .1)
 
 enum-known-judged-2 : tie.Need-enum-known-judged-2 Inv-loop μ-loop
 enum-known-judged-2 c = search needs
 
-sub-key : tie.Need-sub-key Inv-loop μ-loop
-sub-key c = search needs
+sub-rank : tie.Need-sub-rank Inv-loop μ-loop
+sub-rank c = search needs
 
-part-key-start : tie.Need-part-key-start Inv-loop μ-loop
-part-key-start c = search needs
+part-rank-start : tie.Need-part-rank-start Inv-loop μ-loop
+part-rank-start c = search needs
 
-part-key-end : tie.Need-part-key-end Inv-loop μ-loop
-part-key-end c = search needs
+part-rank-end : tie.Need-part-rank-end Inv-loop μ-loop
+part-rank-end c = search needs
 
-key-requires : tie.Need-key-requires Inv-loop μ-loop
-key-requires c κs = search needs
+rank-requires : tie.Need-rank-requires Inv-loop μ-loop
+rank-requires c κs = search needs
 
 add-least : tie.Need-add-least Inv-loop μ-loop
 add-least c =
@@ -118,7 +118,7 @@ add-least c =
     let l = h .before .before .before .before .loop in
     let w = h .before .before .before .before .before in
     let a = w .before .before .before .args in
-    omega (arith, key-made c, key-rest-below (now (a .heads)) (l .head) (octets-known w))
+    omega (arith, rank-made c, rank-rest-below (now (a .heads)) (l .head) (octets-known w))
 
 width-of-requires-2 : tie.Need-width-of-requires-2 Inv-loop μ-loop
 width-of-requires-2 c κs = search needs
@@ -146,7 +146,7 @@ loop-less c = search needs
 
 loop-again : tie.Need-loop-again Inv-loop μ-loop
 loop-again c =
-    rw (c .width-of2 .ensures, key-made (c .before)) (next-judging (c .before .before .before .before))
+    rw (c .width-of2 .ensures, rank-made (c .before)) (next-judging (c .before .before .before .before))
 
 returns-2 : tie.Need-returns-2 Inv-loop μ-loop
 returns-2 c =
@@ -182,13 +182,13 @@ judge-heads-spec =
     part-judge-head-end-2
     judge-head-requires
     enum-known-judged
-    add-t21
+    add-t22
     returns
     enum-known-judged-2
-    sub-key
-    part-key-start
-    part-key-end
-    key-requires
+    sub-rank
+    part-rank-start
+    part-rank-end
+    rank-requires
     add-least
     width-of-requires-2
     add-at

@@ -25,18 +25,18 @@ octets-known : (c : tie.After-width-of Inv-loop μ-loop) → (i : ℕ) → getD 
 octets-known c i = c .before .before .before .before .before .before .before .shared-slice-known .given i .fits
 
 -- the length that the head states
-length-stated : (c : tie.After-head-length Inv-loop μ-loop) → let l = c .before .before .before .loop in let a = c .before .before .before .before .before .before .before .before .before .before .before .before .args in c .head-length .result ≡ headLength (drop (l .head) (now (a .heads)))
+length-stated : (c : tie.After-head-length Inv-loop μ-loop) → let l = c .before .before .before .loop in let a = c .before .before .before .before .before .before .before .before .before .before .before .before .args in c .head-length .result .0 ≡ headLength (drop (l .head) (now (a .heads)))
 length-stated c =
     let l = c .before .before .before .loop in
     let a = c .before .before .before .before .before .before .before .before .before .before .before .before .args in
     c .head-length .ensures ∙ ap headLength (part-rest (now (a .heads)) (l .head))
 
-fits-stated : (c : tie.After-head-length Inv-loop μ-loop) → let l = c .before .before .before .loop in let a = c .before .before .before .before .before .before .before .before .before .before .before .before .args in c .head-length .result ≤ length (now (a .contents)) - l .from
+fits-stated : (c : tie.After-head-length Inv-loop μ-loop) → let l = c .before .before .before .loop in let a = c .before .before .before .before .before .before .before .before .before .before .before .before .args in c .head-length .result .0 ≤ length (now (a .contents)) - l .from
 fits-stated c =
     let l = c .before .before .before .loop in
     rw (length-stated c) (laying-fits _ _ _ _ _ (octets-known (c .before .before .before .before)) (l .at) (l .left) (l .head) (l .from) (l .inv .1) (c .before .before .loop-test .taken))
 
-room-stated : (c : tie.After-head-length Inv-loop μ-loop) → let l = c .before .before .before .loop in l .at + 8 + length (encoded (c .head-length .result)) + c .head-length .result ≤ length (l .buffer)
+room-stated : (c : tie.After-head-length Inv-loop μ-loop) → let l = c .before .before .before .loop in l .at + 8 + length (encoded (c .head-length .result .0)) + c .head-length .result .0 ≤ length (l .buffer)
 room-stated c =
     let l = c .before .before .before .loop in
     rw (length-stated c) (laying-room _ _ _ _ _ (octets-known (c .before .before .before .before)) (l .at) (l .left) (l .head) (l .from) (l .inv .1) (c .before .before .loop-test .taken))
@@ -50,7 +50,7 @@ record-laid c =
     let h = c .before .before .before .before in
     let l = h .before .before .before .loop in
     let a = h .before .before .before .before .before .before .before .before .before .before .before .before .args in
-    let n = h .head-length .result in
+    let n = h .head-length .result .0 in
     c .lay-record .ensures
     ∙ ap₂ (λ (f d : List ℕ). spliced (l .buffer) (l .at) (frontOctets f ++ d)) (part-rest (now (a .heads)) (l .head)) (part-count (now (a .contents)) (l .from) n ∙ ap (λ (i : ℕ). take i (drop (l .from) (now (a .contents)))) (length-stated h))
 
@@ -114,8 +114,8 @@ lay-record-requires c κs =
     let l = h .before .before .before .loop in
     let a = h .before .before .before .before .before .before .before .before .before .before .before .before .args in (
       omega (arith, length-rest (now (a .heads)) (l .head), l .inv .1 .heads, h .before .before .loop-test .taken),
-      rw (part-rest (now (a .heads)) (l .head), ← length-stated h, part-count (now (a .contents)) (l .from) (h .head-length .result))
-          (omega (arith, room-stated h, length-take-le (h .head-length .result) (drop (l .from) (now (a .contents))) (omega (arith, fits-stated h, length-drop (l .from) (now (a .contents)))))),
+      rw (part-rest (now (a .heads)) (l .head), ← length-stated h, part-count (now (a .contents)) (l .from) (h .head-length .result .0))
+          (omega (arith, room-stated h, length-take-le (h .head-length .result .0) (drop (l .from) (now (a .contents))) (omega (arith, fits-stated h, length-drop (l .from) (now (a .contents)))))),
     )
 
 width-of-requires-2 : tie.Need-width-of-requires-2 Inv-loop μ-loop

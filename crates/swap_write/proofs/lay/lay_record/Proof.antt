@@ -6,6 +6,7 @@ use lib.ListN.{length, getD}
 use lib.Seq.{length-take-le}
 use denote.Ref.{now}
 use Rattle.octets.specs.Splice.{spliced}
+use Rattle.numbers.specs.Counts.{inOctets}
 use Rattle.number.specs.Groups.{encoded, octetsAt}
 use Rattle.swap_write.specs.Heads.{headLength}
 use Rattle.swap_write.proofs.Judged.{length-small}
@@ -38,8 +39,8 @@ slice-aggregate-put c =
 put-requires : tie.Need-put-requires
 put-requires c κs = search needs
 
-add-write : tie.Need-add-write
-add-write c = search needs
+add-t8 : tie.Need-add-t8
+add-t8 c = search needs
 
 cast-write : tie.Need-cast-write
 cast-write c =
@@ -64,10 +65,10 @@ returns c =
     let u = w .before .before .before .before in
     let h = u .before .before .before .before in
     let a = h .before .before .before .before in
-    let n : h .head-length .result ≡ headLength (now (a .args .heads)) = h .head-length .ensures in
+    let n : h .head-length .result .0 ≡ headLength (now (a .args .heads)) = h .head-length .ensures in
     let f : a .args .at + 8 + u .before .before .before .width-of .result ≡ a .args .at + 8 + length (encoded (headLength (now (a .args .heads)))) = ap (λ (i : ℕ). a .args .at + 8 + i) (u .before .before .before .width-of .ensures ∙ ap (λ (i : ℕ). length (encoded i)) n) in
     q .put2 .ensures
-    ∙ ap (λ (l : List ℕ). spliced l (a .args .at + 8 + u .before .before .before .width-of .result) (now (a .args .content))) (w .write .ensures .1 ∙ ap₂ (λ (l : List ℕ) (i : ℕ). octetsAt l (a .args .at + 8) i) (u .put .ensures) n)
+    ∙ ap (λ (l : List ℕ). spliced l (a .args .at + 8 + u .before .before .before .width-of .result) (now (a .args .content))) (w .write .ensures .1 ∙ ap₂ (λ (l : List ℕ) (i : ℕ). octetsAt l (inOctets (a .args .at + 8)) i) (u .put .ensures) n)
     ∙ record-laid (now (a .args .buffer)) (now (a .args .heads)) (now (a .args .content)) (a .args .at) _ (a .pre .0) f (omega (arith, f, a .pre .1))
 
 pub lay-record-spec : {M : Type 1} → statement M
@@ -80,7 +81,7 @@ lay-record-spec =
     add-from-2
     slice-aggregate-put
     put-requires
-    add-write
+    add-t8
     cast-write
     write-requires
     put-requires-2

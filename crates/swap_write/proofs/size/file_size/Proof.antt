@@ -23,7 +23,7 @@ octets-known : (c : tie.After-width-of Inv-loop μ-loop) → (i : ℕ) → getD 
 octets-known c i = c .before .before .shared-slice-known .given i .fits
 
 -- the length that the head states, and how many octets it takes
-length-stated : (c : tie.After-head-length Inv-loop μ-loop) → let l = c .before .before .before .before .loop in let a = c .before .before .before .before .before .before .before .before .args in c .head-length .result ≡ headLength (drop (l .head) (now (a .heads)))
+length-stated : (c : tie.After-head-length Inv-loop μ-loop) → let l = c .before .before .before .before .loop in let a = c .before .before .before .before .before .before .before .before .args in c .head-length .result .0 ≡ headLength (drop (l .head) (now (a .heads)))
 length-stated c =
     let l = c .before .before .before .before .loop in
     let a = c .before .before .before .before .before .before .before .before .args in
@@ -69,10 +69,10 @@ width-of-requires-2 : tie.Need-width-of-requires-2 Inv-loop μ-loop
 width-of-requires-2 c κs = search needs
 
 add-sum : tie.Need-add-sum Inv-loop μ-loop
-add-sum c = omega (arith, c .width-of2 .ensures, encoded-short (c .before .head-length .result))
+add-sum c = omega (arith, c .width-of2 .ensures, encoded-short (c .before .head-length .result .0))
 
 add-sum-2 : tie.Need-add-sum-2 Inv-loop μ-loop
-add-sum-2 c = omega (arith, c .width-of2 .ensures, encoded-short (c .before .head-length .result), c .before .before .before .if1 .left)
+add-sum-2 c = omega (arith, c .width-of2 .ensures, encoded-short (c .before .head-length .result .0), c .before .before .before .if1 .left)
 
 sub-if2 : tie.Need-sub-if2 Inv-loop μ-loop
 sub-if2 c = c .before .before .before .before .before .loop .inv .data-left
@@ -99,7 +99,7 @@ add-sum-3 : tie.Need-add-sum-3 Inv-loop μ-loop
 add-sum-3 c =
     let h = c .before .before in
     let a = h .before .before .before .before .before .before .before .before .args in
-    omega (arith, c .before .width-of2 .ensures, encoded-short (h .head-length .result), h .before .before .if1 .left, c .if2 .left, h .before .before .before .before .before .before .before .before .good)
+    omega (arith, c .before .width-of2 .ensures, encoded-short (h .head-length .result .0), h .before .before .if1 .left, c .if2 .left, h .before .before .before .before .before .before .before .before .good)
 
 add-head : tie.Need-add-head Inv-loop μ-loop
 add-head c = omega (arith, next-summed c .heads, c .before .before .before .before .before .before .before .before .before .before .good)

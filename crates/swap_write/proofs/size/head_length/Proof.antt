@@ -16,11 +16,11 @@ octet-requires-2 c κs = search needs
 wide-requires-2 : tie.Need-wide-requires-2
 wide-requires-2 c κs = search needs
 
-mul-result : tie.Need-mul-result
-mul-result c = search needs
+mul-t5 : tie.Need-mul-t5
+mul-t5 c = search needs
 
-add-result : tie.Need-add-result
-add-result c = search needs
+add-t6 : tie.Need-add-t6
+add-t6 c = search needs
 
 returns : tie.Need-returns
 unfolding headLength
@@ -34,6 +34,6 @@ head-length-spec =
     wide-requires
     octet-requires-2
     wide-requires-2
-    mul-result
-    add-result
+    mul-t5
+    add-t6
     returns)

@@ -9,7 +9,7 @@ use lib.ListN.{length, getD, take, drop, drop-of-length-le, length-take}
 use lib.Seq.{drop-cons, take-nil}
 use lib.Dec.{lit<}
 use Rattle.octets.proofs.Below.{below-take, below-drop}
-use Rattle.swap.specs.Record.{numberFrom, keyOf}
+use Rattle.swap.specs.Record.{numberFrom, rankOf}
 
 pub number-grows : (n : ℕ) (s : List ℕ) → n ≤ numberFrom n s
 unfolding numberFrom
@@ -25,35 +25,35 @@ number-below n (o ∷ s) b =
     rw (pow-suc 256 (length s)) (omega arith)
 
 -- seven octets at most are below 2^56
-pub key-below : (s : List ℕ) → ((i : ℕ) → getD s i 0 < 256) → keyOf (take 7 s) < 2 ^ 56
-unfolding keyOf
-key-below s b =
+pub rank-below : (s : List ℕ) → ((i : ℕ) → getD s i 0 < 256) → rankOf (take 7 s) < 2 ^ 56
+unfolding rankOf
+rank-below s b =
     let h : numberFrom 0 (take 7 s) < 1 * 256 ^ length (take 7 s) = number-below 0 (take 7 s) (below-take 256 (lit< tt) 7 s b) in
     let k : 256 ^ length (take 7 s) ≤ 256 ^ 7 = pow-le-pow-right {n = 256} (lit< tt) {i = length (take 7 s)} {j = 7} (omega (arith, length-take 7 s)) in
     omega arith
 
-pub key-rest-below : (s : List ℕ) (at : ℕ) → ((i : ℕ) → getD s i 0 < 256) → keyOf (take 7 (drop at s)) < 2 ^ 56
-key-rest-below s at b = key-below (drop at s) (below-drop 256 (lit< tt) at s b)
+pub rank-rest-below : (s : List ℕ) (at : ℕ) → ((i : ℕ) → getD s i 0 < 256) → rankOf (take 7 (drop at s)) < 2 ^ 56
+rank-rest-below s at b = rank-below (drop at s) (below-drop 256 (lit< tt) at s b)
 
--- the loop of `key` after i octets
-module _ (s : List ℕ) (n i : ℕ) (h : numberFrom n (take (7 - i) (drop i s)) ≡ keyOf (take 7 s)) where
-  pub key-cut : length s ≤ i → n ≡ keyOf (take 7 s)
+-- the loop of `rank` after i octets
+module _ (s : List ℕ) (n i : ℕ) (h : numberFrom n (take (7 - i) (drop i s)) ≡ rankOf (take 7 s)) where
+  pub rank-cut : length s ≤ i → n ≡ rankOf (take 7 s)
   unfolding numberFrom
-  key-cut c = rw (drop-of-length-le s {i = i} c, take-nil) at h
+  rank-cut c = rw (drop-of-length-le s {i = i} c, take-nil) at h
 
-  pub key-next : i < 7 → i < length s → numberFrom (n * 256 + getD s i 0) (take (7 - (i + 1)) (drop (i + 1) s)) ≡ keyOf (take 7 s)
+  pub rank-next : i < 7 → i < length s → numberFrom (n * 256 + getD s i 0) (take (7 - (i + 1)) (drop (i + 1) s)) ≡ rankOf (take 7 s)
   unfolding numberFrom
-  key-next p q =
+  rank-next p q =
       let e : 7 - i ≡ suc (7 - (i + 1)) = omega arith in
       rw (e, drop-cons s i 0 q, ← add-one i) at h
 
   -- what a turn makes fits
-  pub key-room : ((j : ℕ) → getD s j 0 < 256) → i < 7 → i < length s → n * 256 + getD s i 0 < 2 ^ 56
-  key-room b p q =
-      omega (arith, key-next p q, number-grows (n * 256 + getD s i 0) (take (7 - (i + 1)) (drop (i + 1) s)), key-below s b)
+  pub rank-room : ((j : ℕ) → getD s j 0 < 256) → i < 7 → i < length s → n * 256 + getD s i 0 < 2 ^ 56
+  rank-room b p q =
+      omega (arith, rank-next p q, number-grows (n * 256 + getD s i 0) (take (7 - (i + 1)) (drop (i + 1) s)), rank-below s b)
 
-  pub key-done : 7 ≤ i → n ≡ keyOf (take 7 s)
+  pub rank-done : 7 ≤ i → n ≡ rankOf (take 7 s)
   unfolding numberFrom
-  key-done p =
+  rank-done p =
       let e : 7 - i ≡ 0 = omega arith in
       rw e at h

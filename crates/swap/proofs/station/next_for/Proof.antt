@@ -6,11 +6,12 @@ use Prim.Native.Nat.{ℕ}
 use mathlib.Core.List.{List}
 use denote.Ref.{now}
 use Rattle.octets.specs.Part.{same}
 use Rattle.swap.specs.Cursor.{answerOfNext}
-use Rattle.swap_station.specs.Station.{nextFor}
-use Rattle.swap_station.proofs.Steps.{next-left, first-end, first-none, first-found, first-other}
-use Rattle.swap_station.proofs.next_for.Statement.{statement}
-use Rattle.swap_station.proofs.next_for.Tie as tie
+use Rattle.swap.specs.Station.{nextFor}
+use Rattle.swap.proofs.Walking.{next-left}
+use Rattle.swap.proofs.Searching.{first-end, first-none, first-found, first-other}
+use Rattle.swap.proofs.station.next_for.Statement.{statement}
+use Rattle.swap.proofs.station.next_for.Tie as tie
 
 abbrev Inv-loop : tie.InvT-loop
 Inv-loop file ads here₀ here = nextFor ads file here ≡ nextFor ads file here₀

@@ -1,9 +1,10 @@
-// The records of one station in a swap file, one by one: what a tool programs a new card with (01, Swap file).
+// The records of one station, one by one: what a tool programs a new card with (00).
 ghost use mathlib.Core.Path.{_≡_};
 ghost use Rattle.swap.specs.Cursor.{answerOfNext};
-ghost use Rattle.swap_station.specs.Station.{nextFor};
-use swap::Cursor;
-use swap::Next;
+ghost use Rattle.swap.specs.Station.{nextFor};
+use crate::cursor::Cursor;
+use crate::cursor::Next;
+use crate::cursor::ads as ads_of;
 
 // The first record at or after the cursor whose ADS is the station's, with the cursor after it; the end where none is left.
 pub fn next_for(cursor: Cursor, file: &[u8], ads: [u8; 6]) -> Next
@@ -20,7 +21,7 @@ pub fn next_for(cursor: Cursor, file: &[u8], ads: [u8; 6]) -> Next
                 return Next::NoRecord;
             }
             Next::Record(entry, after) => {
-                let its = swap::cursor::ads(file, entry);
+                let its = ads_of(file, entry);
                 if octets::equal(&its, &ads) {
                     return Next::Record(entry, after);
                 }

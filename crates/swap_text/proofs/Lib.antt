@@ -1,0 +1,3 @@
+pub mod Parts
+mod Whole
+pub mod Listing
