@@ -14,65 +14,88 @@ use crate::rng::Rng;
 use crate::tool::{After, Begun, Outcome, Request, Running, Sort, Tool};
 use crate::wire::{self, Primary};
 
-/// docs/TOOL_MEMORY.md.
-const SIZE: usize = 263;
-const LENGTH: usize = 2;
-const LAST: usize = 126;
-const RECEIVER: usize = 134;
+/// docs/TOOL_MEMORY.md: where each field stands.
+mod at {
+    pub const MARK: usize = 0;
+    pub const TAB: usize = 1;
+    pub const LENGTH: usize = 2;
+    pub const ADS: usize = 3;
+    pub const ADP: usize = 9;
+    pub const KEY: usize = 10;
+    pub const NA1: usize = 18;
+    pub const SENT: usize = 26;
+    pub const STATION: usize = 142;
+    pub const SUCCESSES: usize = 148;
+    pub const RECEIVER: usize = 149;
+}
+const SIZE: usize = 278;
+
+/// docs/TOOL_MEMORY.md: the marks of the request. The last one is in use too, and no other.
+mod mark {
+    pub const IDLE: u8 = 0;
+    pub const AFTER_ENQ: u8 = 1;
+    pub const AFTER_TRF: u8 = 2;
+    pub const AFTER_REC: u8 = 3;
+    pub const AFTER_AUT: u8 = 4;
+    pub const CALLED: u8 = 5;
+}
 
 /// What every cell and lent octet holds before a call, so that a write is seen.
 const CELLS: Cells = Cells { length: 777, wake: 7, ended: 7, count: 777 };
 
 /// 01, The card (12), read off the octets of a tool memory.
 fn sound(memory: &[u8]) -> bool {
-    let held = memory[RECEIVER + 1] as usize;
-    let n = memory[RECEIVER + 2];
-    let partial = memory[RECEIVER] == 0 && held > 0;
-    let in_use = memory[0] <= 4 && memory[LAST] <= 1 && memory[RECEIVER] <= 1;
-    in_use && (memory[0] != 3 || memory[LENGTH] <= 100) && !(partial && (frame::refused_n(n) || held >= n as usize))
+    let held = memory[at::RECEIVER + 1] as usize;
+    let n = memory[at::RECEIVER + 2];
+    let partial = memory[at::RECEIVER] == 0 && held > 0;
+    let in_use = memory[at::MARK] <= mark::CALLED && memory[at::RECEIVER] <= 1;
+    let over_long = memory[at::MARK] == mark::AFTER_REC && memory[at::LENGTH] > 100;
+    in_use && !over_long && !(partial && (frame::refused_n(n) || held >= n as usize))
 }
 
 /// The octets of the layout that the papers decide for this tool, and the octets that stand there; the others are free.
 fn decided(tool: &Tool) -> Vec<(usize, Vec<u8>)> {
     let mut fields = vec![];
+    let called = tool.sent.last().is_some_and(|last| last.sort == Sort::EnqOrTrf);
     let mark = match &tool.running {
-        None => 0,
+        None if called => mark::CALLED,
+        None => mark::IDLE,
         Some(Running { ads, adp, after }) => {
-            fields.extend([(3, ads.to_vec()), (9, vec![*adp])]);
+            fields.extend([(at::ADS, ads.to_vec()), (at::ADP, vec![*adp])]);
             match after {
                 After::Enq { tab } => {
-                    fields.push((1, vec![*tab]));
-                    1
+                    fields.push((at::TAB, vec![*tab]));
+                    mark::AFTER_ENQ
                 }
-                After::Trf => 2,
+                After::Trf => mark::AFTER_TRF,
                 After::Rec { tab, data, key, na1 } => {
-                    fields.extend([(1, vec![*tab, data.len() as u8]), (10, key.to_vec())]);
-                    fields.extend([(18, na1.to_vec()), (26, data.clone())]);
-                    3
+                    fields.extend([(at::TAB, vec![*tab]), (at::LENGTH, vec![data.len() as u8])]);
+                    fields.extend([(at::KEY, key.to_vec()), (at::NA1, na1.to_vec()), (at::SENT, data.clone())]);
+                    mark::AFTER_REC
                 }
-                After::Aut => 4,
+                After::Aut => mark::AFTER_AUT,
             }
         }
     };
-    fields.push((0, vec![mark]));
+    fields.push((at::MARK, vec![mark]));
     fields.extend(waking(tool));
     fields.extend(match &tool.receiver {
-        Receiver::Empty => vec![(RECEIVER, vec![0, 0])],
-        Receiver::Skipping => vec![(RECEIVER, vec![1])],
-        Receiver::Partial(held) => vec![(RECEIVER, [&[0, held.len() as u8], &held[..]].concat())],
+        Receiver::Empty => vec![(at::RECEIVER, vec![0, 0])],
+        Receiver::Skipping => vec![(at::RECEIVER, vec![1])],
+        Receiver::Partial(held) => vec![(at::RECEIVER, [&[0, held.len() as u8], &held[..]].concat())],
     });
     fields
 }
 
-/// What the wake-up rule needs of the requests so far.
+/// What the wake-up rule needs of the requests so far, besides the mark.
 fn waking(tool: &Tool) -> Vec<(usize, Vec<u8>)> {
-    let Some(last) = tool.sent.last() else { return vec![(LAST, vec![0])] };
+    let Some(last) = tool.sent.last() else { return vec![] };
     if last.sort == Sort::RecTrbOrIb {
-        return vec![(LAST, vec![0])];
+        return vec![];
     }
     let woken = tool.sent.iter().rposition(|sent| sent.woken).expect("the first ENQ or TRF had one");
     let succeeded = tool.sent[woken..].iter().filter(|sent| sent.succeeded).count();
-    vec![(LAST, vec![1]), (LAST + 1, last.ads.to_vec()), (LAST + 7, vec![succeeded.min(5) as u8])]
+    vec![(at::STATION, last.ads.to_vec()), (at::SUCCESSES, vec![succeeded.min(5) as u8])]
 }
 
 /// The model and ours, given the same calls.
@@ -105,8 +128,8 @@ impl Pair {
         let kept = match number {
             0 => true,
             6 | 7 | 12 | 16 | 17 => memory == before,
-            1..=5 => memory[..RECEIVER] == before[..RECEIVER],
-            _ => memory[1..RECEIVER] == before[1..RECEIVER],
+            1..=5 => memory[..at::RECEIVER] == before[..at::RECEIVER],
+            _ => memory[at::TAB..at::RECEIVER] == before[at::TAB..at::RECEIVER],
         };
         same((kept, self.memory.guards_kept(), sound(memory)), (true, true, true), input)
     }
@@ -280,8 +303,9 @@ fn damaged(rng: &mut Rng, pair: &Pair) -> Case {
     let mut octets = pair.memory.octets().to_vec();
     for _ in 0..1 + rng.below(3) {
         let anywhere = rng.below(SIZE);
-        let at = rng.pick(&[0, 1, LENGTH, LAST, RECEIVER, RECEIVER + 1, RECEIVER + 2, anywhere]);
-        octets[at] = if rng.once_in(2) { rng.below(6) as u8 } else { rng.octet() };
+        let receiver = [at::RECEIVER, at::RECEIVER + 1, at::RECEIVER + 2];
+        let place = rng.pick(&[at::MARK, at::TAB, at::LENGTH, receiver[0], receiver[1], receiver[2], anywhere]);
+        octets[place] = if rng.once_in(2) { rng.below(7) as u8 } else { rng.octet() };
     }
     let (mut memory, mut cells, room) = (Lent::new(&octets), CELLS, rng.pick(&[127, 128]));
     let (mut frame, mut data) = (Lent::new(&vec![0x5A; room]), Lent::new(&[0x5A; 116]));

@@ -4,7 +4,7 @@
  * written order, most significant octet first; on the wire they go the other way round. Buffers of one call must not overlap, and no
  * pointer is null, also where its count is 0.
  *
- * Tool memory is 263 octets (docs/TOOL_MEMORY.md has the layout). It holds one tool, is for one call at a time, and nothing but these calls
+ * Tool memory is 278 octets (docs/TOOL_MEMORY.md has the layout). It holds one tool, is for one call at a time, and nothing but these calls
  * writes it. Every call tests it before use.
  *
  * A call gives 0, or a number:
@@ -27,18 +27,18 @@
  * - It reports a session end when its own waiting time for a reply ends with no first octet: TA10 of the physical layer (Table 1) or T1 of
  *   the data link layer. A session end does not reset the wake-up rule.
  * - Where *length is not 0 after an octet, it sends those octets: AUT, without a wake-up call.
- * - It fits a label for a record with propolisk_label_fit (propolisk_leaf.h) before it programs or transfers it: octet counts and character
+ * - It fits a label for a record with propolisk_label_fit (propolisk_primitives.h) before it programs or transfers it: octet counts and character
  *   counts never stand in for each other.
  *
- * Stack, measured in octets below the caller (examples/call_stack.c): program 2,992, octet 2,752, the other requests under 2,500, gap and
- * session_end under 1,300, new 256 or less. */
+ * Stack, measured in octets below the caller (examples/call_stack.c): octet 2,608, the requests under 2,500, gap and session_end under 1,350,
+ * new 256 or less. */
 #ifndef PROPOLISK_TOOL_H
 #define PROPOLISK_TOOL_H
 
 #include <stddef.h>
 #include <stdint.h>
 
-#define PROPOLISK_TOOL_MEMORY 263
+#define PROPOLISK_TOOL_MEMORY 278
 /* Octets of stack that a call needs at most, as measured. */
 #define PROPOLISK_TOOL_STACK 3072
 

@@ -1,71 +1,78 @@
--- What an admitted request has passed, and what an admission lets through.
+-- What an admitted request has passed, and what it sends of what was lent.
 use Prim.Native.Nat.{ℕ, _≤_}
-use mathlib.Core.Path.{_≡_, refl}
+use mathlib.Core.Path.{_≡_, refl, sym, _∙_}
 use mathlib.Core.Bool.{Bool, true, false, cond, _&&_}
 use mathlib.Core.List.{List}
 use native.Mathlib.Omega.{arith}
 use lib.Dec.{eqb, leb}
-use lib.ListN.{length}
+use lib.ListN.{length, replicate}
 use borrow.Author.Tests.{eqb-true, leb-true, le-leb}
+use Rattle.numbers.specs.Table.{none, wrongAddress, tooLong, brokenRule, busy}
 use Rattle.octets.specs.Between.{between}
+use Rattle.octets.specs.Splice.{spliced}
+use Rattle.octets.proofs.Impossible.{impossible}
+use Rattle.octets.proofs.Splice.{spliced-whole}
 use Rattle.frame.specs.Layout.{layoutOf, within}
 use Rattle.wake.specs.declared.Request.{Request}
 use Rattle.wake.specs.declared.Request.the-variants.{Enq, Trf, Rec, Trb, Ib}
 use Rattle.tool.specs.declared.Tool.{Tool}
-use Rattle.tool.specs.declared.Refusal.{Refusal}
-use Rattle.tool.specs.declared.Refusal.the-variants.{WrongAddress, TooLong, BrokenRule, Busy, WrongLength}
-use Rattle.tool.specs.declared.requests.Admission.{Admission}
-use Rattle.tool.specs.declared.requests.Admission.the-variants.{Admitted, Refused}
-use Rattle.tool.specs.declared.Answer.the-variants as answer
-use Rattle.tool.specs.Parts.{Response, responding}
+use Rattle.tool.specs.declared.requests.Arguments.{Arguments}
+use Rattle.frame.specs.Sizes.{addressWidth, numberWidth, mostProgrammed, mostTransferred, longestFrame}
+use Rattle.tool.specs.Parts.{idle}
 use Rattle.tool.specs.Soundness.{sound}
-use Rattle.tool.specs.Requests.{commandOf, addressable, limitOf, idle, admission, admitted}
-use Rattle.octets.proofs.Impossible.{impossible}
+use Rattle.tool.specs.Requests.{Asking, zeroNumber, askingOf, commandOf, addressable, limitOf, lentRightly, admission}
 
-pub record Admits (t : Tool) (r : Request) (ads d : List ℕ) (room : ℕ) : Type 0 where
-  pub six : length ads ≡ 6
-  pub buffer : 128 ≤ room
+-- what is lent for a request is as long as it must be
+pub record Lent (ads key na1 : List ℕ) (bufferLength : ℕ) : Type 0 where
+  pub address : length ads ≡ addressWidth
+  pub secret : length key ≡ numberWidth
+  pub first : length na1 ≡ numberWidth
+  pub buffer : longestFrame ≤ bufferLength
+
+pub lent : (ads key na1 : List ℕ) (bufferLength : ℕ) → lentRightly ads key na1 bufferLength ≡ true → Lent ads key na1 bufferLength
+lent ads key na1 bufferLength =
+    go (eqb (length ads) addressWidth) (eqb (length key) numberWidth) (eqb (length na1) numberWidth) (leb longestFrame bufferLength) refl refl refl refl
+  where
+    go : (a b c d : Bool) → eqb (length ads) addressWidth ≡ a → eqb (length key) numberWidth ≡ b → eqb (length na1) numberWidth ≡ c → leb longestFrame bufferLength ≡ d
+        → (a && (b && (c && d))) ≡ true → Lent ads key na1 bufferLength
+    go true true true true ea eb ec ed e =
+        record { address = eqb-true _ _ ea; secret = eqb-true _ _ eb; first = eqb-true _ _ ec; buffer = leb-true _ _ ed }
+    go true true true false ea eb ec ed e = impossible (cc)
+    go true true false d ea eb ec ed e = impossible (cc)
+    go true false c d ea eb ec ed e = impossible (cc)
+    go false b c d ea eb ec ed e = impossible (cc)
+
+pub record Admits (t : Tool) (r : Request) (ads d : List ℕ) : Type 0 where
   pub sound : sound t ≡ true
   pub idle : idle (t .phase) ≡ true
   pub sort : addressable r ads ≡ true
   pub within : length d ≤ limitOf r
 
-pub admits : (t : Tool) (r : Request) (ads d : List ℕ) (room : ℕ) → admission t r ads d room ≡ Admitted → Admits t r ads d room
+pub admits : (t : Tool) (r : Request) (ads d : List ℕ) → admission t r ads d ≡ none → Admits t r ads d
 unfolding admission
-admits t r ads d room =
-    go (eqb (length ads) 6) (leb 128 room) (sound t) (idle (t .phase)) (addressable r ads) (leb (length d) (limitOf r)) refl refl refl refl refl refl
+admits t r ads d =
+    go (sound t) (idle (t .phase)) (addressable r ads) (leb (length d) (limitOf r)) refl refl refl refl
   where
-    go : (a b s i x y : Bool) → eqb (length ads) 6 ≡ a → leb 128 room ≡ b → sound t ≡ s → idle (t .phase) ≡ i → addressable r ads ≡ x → leb (length d) (limitOf r) ≡ y
-        → cond (a && b) (cond s (cond i (cond x (cond y Admitted (Refused TooLong)) (Refused WrongAddress)) (Refused Busy)) (Refused BrokenRule)) (Refused WrongLength) ≡ Admitted → Admits t r ads d room
-    go true true true true true true ea eb es ei ex ey e =
-        record { six = eqb-true _ _ ea; buffer = leb-true _ _ eb; sound = es; idle = ei; sort = ex; within = leb-true _ _ ey }
-    go true true true true true false ea eb es ei ex ey e = impossible (cc)
-    go true true true true false y ea eb es ei ex ey e = impossible (cc)
-    go true true true false x y ea eb es ei ex ey e = impossible (cc)
-    go true true false i x y ea eb es ei ex ey e = impossible (cc)
-    go true false s i x y ea eb es ei ex ey e = impossible (cc)
-    go false b s i x y ea eb es ei ex ey e = impossible (cc)
-
--- what comes after the admission a
-module _ (a : Admission) (t : Tool) (r : Response) where
-  pub passes : a ≡ Admitted → admitted a t r ≡ r
-  unfolding admitted
-  passes e = rw e
-
-  pub stops : (x : Refusal) → a ≡ Refused x → admitted a t r ≡ responding t (answer.Refused x)
-  unfolding admitted
-  stops x e = rw e
-
-pub passes-alike : (a : Admission) (t : Tool) (r q : Response) → (a ≡ Admitted → r ≡ q) → admitted a t r ≡ admitted a t q
-unfolding admitted
-passes-alike Admitted t r q e = e refl
-passes-alike (Refused x) t r q e = refl
+    go : (s i x y : Bool) → sound t ≡ s → idle (t .phase) ≡ i → addressable r ads ≡ x → leb (length d) (limitOf r) ≡ y
+        → cond s (cond i (cond x (cond y none tooLong) wrongAddress) busy) brokenRule ≡ none → Admits t r ads d
+    go true true true true es ei ex ey e = record { sound = es; idle = ei; sort = ex; within = leb-true _ _ ey }
+    go true true true false es ei ex ey e = impossible (cc)
+    go true true false y es ei ex ey e = impossible (cc)
+    go true false x y es ei ex ey e = impossible (cc)
+    go false i x y es ei ex ey e = impossible (cc)
 
 -- the limit of 01 is that of the request's frame
 pub limit-within : (r : Request) (n : ℕ) → n ≤ limitOf r → within (layoutOf (commandOf r)) n ≡ true
 unfolding within layoutOf between
 limit-within Enq n h = rw (le-leb 0 n (omega arith), le-leb n 0 h)
-limit-within Trf n h = rw (le-leb 0 n (omega arith), le-leb n 116 h)
-limit-within Rec n h = rw (le-leb 0 n (omega arith), le-leb n 100 h)
-limit-within Trb n h = rw (le-leb 0 n (omega arith), le-leb n 116 h)
+limit-within Trf n h = rw (le-leb 0 n (omega arith), le-leb n mostTransferred h)
+limit-within Rec n h = rw (le-leb 0 n (omega arith), le-leb n mostProgrammed h)
+limit-within Trb n h = rw (le-leb 0 n (omega arith), le-leb n mostTransferred h)
 limit-within Ib n h = rw (le-leb 0 n (omega arith), le-leb n 0 h)
+
+-- the arguments are what was lent
+pub arguments-lent : (r : Request) (ads : List ℕ) (adp tab : ℕ) (d key na1 : List ℕ) (bufferLength : ℕ) → Lent ads key na1 bufferLength → (a : Arguments)
+    → a ≡ record { request = r; ads = spliced (replicate addressWidth 0) 0 ads; adp = adp; tab = tab; key = spliced zeroNumber 0 key; na1 = spliced zeroNumber 0 na1 }
+    → askingOf a d ≡ record { request = r; ads = ads; adp = adp; tab = tab; content = d; key = key; na1 = na1 }
+arguments-lent r ads adp tab d key na1 bufferLength l a e =
+    rw (e, spliced-whole (replicate addressWidth 0) ads (l .address), spliced-whole zeroNumber key (l .secret), spliced-whole zeroNumber na1 (l .first))

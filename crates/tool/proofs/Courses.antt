@@ -1,126 +1,150 @@
 -- What each call comes to. The other laws of this crate go by these few cases.
 use Prim.Native.Nat.{ℕ}
-use mathlib.Core.Path.{_≡_, refl, ap}
-use mathlib.Core.Bool.{Bool, true, false, cond, _&&_}
+use mathlib.Core.Path.{_≡_, refl}
+use mathlib.Core.Bool.{Bool, true, false, cond}
 use mathlib.Core.List.{List}
 use lib.Dec.{eqb, leb}
 use lib.ListN.{length}
+use borrow.Author.Tests.{eqb-true}
+use Rattle.octets.proofs.Impossible.{impossible}
+use Rattle.numbers.specs.Table.{none, wrongAddress, tooLong, brokenRule, sessionEnded, busy, wrongLength}
 use Rattle.frame.specs.declared.codes.Command.{Command}
-use Rattle.frame.specs.declared.checks.Fault.{Fault}
 use Rattle.frame.specs.Content.{fieldsOf, dataOf}
-use Rattle.receiver.specs.Receiving.{Reception, Awaiting, Skipping, Partial, Outcome, Silent, Dropped, Complete, Step, onOctet, onGap}
-use Rattle.receiver.specs.Receiver.{receptionOf, holding}
+use Rattle.receiver.specs.Receiving.{Reception, Outcome, Silent, Dropped, Complete, Step, to, onOctet, onGap, onSessionEnd}
+use Rattle.receiver.specs.Receiver.{receptionOf}
+use Rattle.receiver.proofs.Follows.{Numbered, octet-numbered, gap-numbered}
 use Rattle.wake.specs.declared.Request.{Request}
 use Rattle.tool.specs.declared.Tool.{Tool}
-use Rattle.tool.specs.declared.Refusal.{Refusal}
-use Rattle.tool.specs.declared.Refusal.the-variants.{BadFrame, WrongAddress, TooLong, BrokenRule, SessionEnded, Busy, WrongLength}
-use Rattle.tool.specs.declared.Answer.the-variants.{Refused}
-use Rattle.tool.specs.declared.requests.Admission.{Admission}
-use Rattle.tool.specs.declared.requests.Admission.the-variants as admission
-use Rattle.tool.specs.Parts.{withReceiver, Response, responding, silent, over}
+use Rattle.frame.specs.Sizes.{longestFrame}
+use Rattle.tool.specs.Parts.{idle, Response, silent, refusing, over, finished}
 use Rattle.tool.specs.Soundness.{sound}
-use Rattle.tool.specs.Requests.{addressable, limitOf, idle, admission, admitted}
-use Rattle.tool.specs.Events.{afterStep, heardAs, heardStep, hearing, afterOctet, afterGap, afterSessionEnd}
-use Rattle.octets.proofs.Impossible.{impossible}
-use Rattle.tool.proofs.Admission.{Admits, admits}
-use Rattle.tool.proofs.Endings.{Ends, frame-ends}
+use Rattle.tool.specs.Requests.{Asking, addressable, limitOf, lentRightly, admission, sending, admitted, afterAsking}
+use Rattle.tool.specs.Replies.{authenticating, expected}
+use Rattle.tool.specs.Events.{afterStep, heardAs, heardStep, closed, Call, Ask, Octet, Gap, SessionEnd, after, afterOctet, afterGap, afterSessionEnd}
+use Rattle.tool.specs.Leaving.{KeepsAll, ReceiverOnly, Over, effectOf, unmade}
+use Rattle.tool.proofs.Admission.{Lent, lent, Admits, admits}
+use Rattle.tool.proofs.Effects.{bad-frame-effect}
+use Rattle.tool.proofs.Endings.{Runs, Echo, Ends, quiet, well, ill, echoed, frame-ends}
 
--- equal responses have equal tools
-pub tool-of : {r s : Response} → r ≡ s → r .tool ≡ s .tool
-tool-of e = ap (λ (s : Response). s .tool) e
+-- an octet, a gap or a session end
+abbrev pub isEvent : Call → Bool
+isEvent (Ask q l) = false
+isEvent (Octet o l) = true
+isEvent Gap = true
+isEvent SessionEnd = true
 
--- refusals that leave everything: 6, 7, 16 and 17, and 12 of a tool that is not sound
-pub data Stays (t : Tool) : Refusal → Type 0 where
-  address : Stays t WrongAddress
-  amount : Stays t TooLong
-  busy : Stays t Busy
-  lengths : Stays t WrongLength
-  broken : sound t ≡ false → Stays t BrokenRule
+-- its rule of 01, Receiving; a request does not touch the receiver
+abbrev pub rule : Call → Reception → Step
+rule (Ask q l) h = to h Silent
+rule (Octet o l) h = onOctet o h
+rule Gap h = onGap h
+rule SessionEnd h = onSessionEnd h
 
--- A request: it is refused and leaves everything, or it is admitted and gives s.
-pub data Asks (t : Tool) (q : Request) (ads d : List ℕ) (room : ℕ) (s r : Response) : Type 0 where
-  unasked : (x : Refusal) → Stays t x → r ≡ responding t (Refused x) → Asks t q ads d room s r
-  sent : Admits t q ads d room → r ≡ s → Asks t q ads d room s r
+abbrev pub moved : Call → Tool → Tool
+moved x t = afterStep (rule x (receptionOf (t .receiver))) t
 
-module _ (t : Tool) (q : Request) (ads d : List ℕ) (room : ℕ) where
-  refused-stays : (x : Refusal) → admission t q ads d room ≡ admission.Refused x → Stays t x
-  unfolding admission
-  refused-stays x = go (eqb (length ads) 6 && leb 128 room) (sound t) (idle (t .phase)) (addressable q ads) (leb (length d) (limitOf q)) refl
+-- a refusal that leaves everything: 6, 7, 16 and 17, and 12 of a tool that is not sound
+pub record Stays (t : Tool) (x : Call) (n : ℕ) : Type 0 where
+  pub all : effectOf n ≡ KeepsAll
+  pub numbered : eqb n none ≡ false
+  pub unsound : n ≡ brokenRule → sound t ≡ false
+  pub event : isEvent x ≡ true → unmade n ≡ true
+
+-- The response r of the tool t to the call x. It is refused, and everything stays; a request is sent; nothing comes of an event but in the receiver; a
+-- bad frame is dropped; the running request ends well, or with a number; or AUT is sent.
+pub data Course (t : Tool) (x : Call) (r : Response) : Type 0 where
+  stays : (n : ℕ) → Stays t x n → r ≡ refusing t n → Course t x r
+  asks : (q : Asking) (l : ℕ) → x ≡ Ask q l → Lent (q .ads) (q .key) (q .na1) l → Admits t (q .request) (q .ads) (q .content) → r ≡ sending q t → Course t x r
+  passes : isEvent x ≡ true → r ≡ silent (moved x t) → Course t x r
+  drops : isEvent x ≡ true → (n : ℕ) → effectOf n ≡ ReceiverOnly → r ≡ refusing (moved x t) n → Course t x r
+  ends : isEvent x ≡ true → idle (t .phase) ≡ false → (d : List ℕ) → r ≡ finished d (moved x t) → Course t x r
+  fails : isEvent x ≡ true → idle (t .phase) ≡ false → (n : ℕ) → effectOf n ≡ Over → r ≡ over (moved x t) n → Course t x r
+  echoes : isEvent x ≡ true → (c : Command) (s : List ℕ) → rule x (receptionOf (t .receiver)) .outcome ≡ Complete c s → Runs t (fieldsOf c s)
+      → Echo t c (fieldsOf c s) (dataOf c s) → r ≡ authenticating (fieldsOf c s .za2) (moved x t) → Course t x r
+
+module _ (t : Tool) where
+  lent-stays : (x : Call) → Stays t x wrongLength
+  lent-stays x = record { all = refl; numbered = refl; unsound = λ e. impossible (cc); event = λ e. refl }
+
+  broken-stays : (x : Call) → sound t ≡ false → Stays t x brokenRule
+  broken-stays x s = record { all = refl; numbered = refl; unsound = λ e. s; event = λ e. refl }
+
+  -- what a refused request leaves
+  module _ (q : Asking) (l : ℕ) where
+    admission-stays : eqb (admission t (q .request) (q .ads) (q .content)) none ≡ false → Stays t (Ask q l) (admission t (q .request) (q .ads) (q .content))
+    unfolding admission
+    admission-stays = go (sound t) (idle (t .phase)) (addressable (q .request) (q .ads)) (leb (length (q .content)) (limitOf (q .request))) refl
+      where
+        go : (s i a w : Bool) → sound t ≡ s → eqb (cond s (cond i (cond a (cond w none tooLong) wrongAddress) busy) brokenRule) none ≡ false
+            → Stays t (Ask q l) (cond s (cond i (cond a (cond w none tooLong) wrongAddress) busy) brokenRule)
+        go true true true true es e = impossible (cc)
+        go true true true false es e = record { all = refl; numbered = refl; unsound = λ z. impossible (cc); event = λ z. impossible (cc) }
+        go true true false w es e = record { all = refl; numbered = refl; unsound = λ z. impossible (cc); event = λ z. impossible (cc) }
+        go true false a w es e = record { all = refl; numbered = refl; unsound = λ z. impossible (cc); event = λ z. impossible (cc) }
+        go false i a w es e = broken-stays (Ask q l) es
+
+    ask-course : Course t (Ask q l) (afterAsking t q l)
+    unfolding afterAsking admitted
+    ask-course = tested (lentRightly (q .ads) (q .key) (q .na1) l) refl
+      where
+        judged : lentRightly (q .ads) (q .key) (q .na1) l ≡ true → (b : Bool) → eqb (admission t (q .request) (q .ads) (q .content)) none ≡ b
+            → Course t (Ask q l) (cond b (sending q t) (refusing t (admission t (q .request) (q .ads) (q .content))))
+        judged p true e = asks q l refl (lent _ _ _ _ p) (admits _ _ _ _ (eqb-true _ _ e)) refl
+        judged p false e = stays _ (admission-stays e) refl
+
+        tested : (b : Bool) → lentRightly (q .ads) (q .key) (q .na1) l ≡ b
+            → Course t (Ask q l) (cond b (cond (eqb (admission t (q .request) (q .ads) (q .content)) none) (sending q t) (refusing t (admission t (q .request) (q .ads) (q .content)))) (refusing t wrongLength))
+        tested true p = judged p (eqb (admission t (q .request) (q .ads) (q .content)) none) refl
+        tested false p = stays wrongLength (lent-stays (Ask q l)) refl
+
+  -- what a good frame does, by the tool before the receiver's step
+  ends-course : (x : Call) → isEvent x ≡ true → (c : Command) (s : List ℕ) → rule x (receptionOf (t .receiver)) .outcome ≡ Complete c s
+      → (r : Response) → Ends (moved x t) c (fieldsOf c s) (dataOf c s) r → Course t x r
+  unfolding expected
+  ends-course x v c s u r (quiet e) = passes v e
+  ends-course x v c s u r (well w d e) = ends v (w .running) d e
+  ends-course x v c s u r (ill w n p e) = fails v (w .running) n p e
+  ends-course x v c s u r (echoed w h e) =
+      echoes v c s u (record { running = w .running; answered = w .answered })
+      (record { command = h .command; tab = h .tab; count = h .count; phase = h .phase; cipher = h .cipher; same-tab = h .same-tab; same-data = h .same-data })
+      e
+
+  heard-course : (x : Call) → isEvent x ≡ true → (u : Outcome) → Numbered u → rule x (receptionOf (t .receiver)) .outcome ≡ u → Course t x (heardAs u (moved x t))
+  unfolding heardAs
+  heard-course x v Silent n u = passes v refl
+  heard-course x v (Dropped m) n u = drops v m (bad-frame-effect m n) refl
+  heard-course x v (Complete c s) n u = ends-course x v c s u _ (frame-ends (moved x t) c (fieldsOf c s) (dataOf c s))
+
+  octet-course : (o l : ℕ) → Course t (Octet o l) (afterOctet t o l)
+  unfolding afterOctet
+  octet-course o l = go (leb longestFrame l) (sound t) refl
     where
-      same-as : (y : Refusal) → admission.Refused y ≡ admission.Refused x → Stays t y → Stays t x
-      same-as y e s = let q : y ≡ x = cc in rw q at s
+      go : (a s : Bool) → sound t ≡ s → Course t (Octet o l) (cond a (cond s (heardStep (onOctet o (receptionOf (t .receiver))) t) (refusing t brokenRule)) (refusing t wrongLength))
+      go true true e = heard-course (Octet o l) refl _ (octet-numbered o (receptionOf (t .receiver))) refl
+      go true false e = stays brokenRule (broken-stays (Octet o l) e) refl
+      go false s e = stays wrongLength (lent-stays (Octet o l)) refl
 
-      go : (a s i b l : Bool) → sound t ≡ s
-          → cond a (cond s (cond i (cond b (cond l admission.Admitted (admission.Refused TooLong)) (admission.Refused WrongAddress)) (admission.Refused Busy)) (admission.Refused BrokenRule)) (admission.Refused WrongLength) ≡ admission.Refused x → Stays t x
-      go true true true true true es e = impossible (cc)
-      go true true true true false es e = same-as TooLong e amount
-      go true true true false l es e = same-as WrongAddress e address
-      go true true false b l es e = same-as Busy e busy
-      go true false i b l es e = same-as BrokenRule e (broken es)
-      go false s i b l es e = same-as WrongLength e lengths
-
-  pub asks : (s : Response) → Asks t q ads d room s (admitted (admission t q ads d room) t s)
-  unfolding admitted
-  asks s = go (admission t q ads d room) refl
+  gap-course : Course t Gap (afterGap t)
+  unfolding afterGap
+  gap-course = go (sound t) refl
     where
-      go : (a : Admission) → admission t q ads d room ≡ a → Asks t q ads d room s (admitted a t s)
-      go admission.Admitted e = sent (admits t q ads d room e) refl
-      go (admission.Refused x) e = unasked x (refused-stays x e) refl
+      go : (s : Bool) → sound t ≡ s → Course t Gap (cond s (heardStep (onGap (receptionOf (t .receiver))) t) (refusing t brokenRule))
+      go true e = heard-course Gap refl _ (gap-numbered (receptionOf (t .receiver))) refl
+      go false e = stays brokenRule (broken-stays Gap e) refl
 
--- What a receiver's outcome u gives to the tool t.
-pub data Hears (u : Outcome) (t : Tool) (r : Response) : Type 0 where
-  nothing : r ≡ silent t → Hears u t r
-  dropped : (f : Fault) → r ≡ responding t (Refused (BadFrame f)) → Hears u t r
-  framed : (c : Command) (s : List ℕ) → u ≡ Complete c s → Ends t c (fieldsOf c s) (dataOf c s) r → Hears u t r
+  session-end-course : Course t SessionEnd (afterSessionEnd t)
+  unfolding afterSessionEnd
+  session-end-course = go (sound t) (idle (t .phase)) refl refl
+    where
+      go : (s i : Bool) → sound t ≡ s → idle (t .phase) ≡ i
+          → Course t SessionEnd (cond s (cond i (silent (moved SessionEnd t)) (over (moved SessionEnd t) sessionEnded)) (refusing t brokenRule))
+      go true true e i = passes refl refl
+      go true false e i = fails refl i sessionEnded refl refl
+      go false i e z = stays brokenRule (broken-stays SessionEnd e) refl
 
-hears : (u : Outcome) (t : Tool) → Hears u t (heardAs u t)
-unfolding heardAs
-hears Silent t = nothing refl
-hears (Dropped f) t = dropped f refl
-hears (Complete c s) t = framed c s refl (frame-ends t c (fieldsOf c s) (dataOf c s))
-
--- An octet or a gap, with the receiver's rule f: it is refused and leaves everything, or the receiver takes its step.
-pub data Takes (f : Reception → Step) (t : Tool) (r : Response) : Type 0 where
-  untaken : (x : Refusal) → Stays t x → r ≡ responding t (Refused x) → Takes f t r
-  heard : sound t ≡ true → Hears (f (receptionOf (t .receiver)) .outcome) (afterStep (f (receptionOf (t .receiver))) t) r → Takes f t r
-
-pub takes-octet : (t : Tool) (o room : ℕ) → Takes (onOctet o) t (afterOctet t o room)
-unfolding afterOctet
-takes-octet t o room = go (leb 128 room) (sound t) refl
-  where
-    go : (a s : Bool) → sound t ≡ s → Takes (onOctet o) t (cond a (cond s (hearing t o) (responding t (Refused BrokenRule))) (responding t (Refused WrongLength)))
-    go true true e = heard e (hears _ _)
-    go true false e = untaken BrokenRule (broken e) refl
-    go false s e = untaken WrongLength lengths refl
-
-pub takes-gap : (t : Tool) → Takes onGap t (afterGap t)
-unfolding afterGap
-takes-gap t = go (sound t) refl
-  where
-    go : (s : Bool) → sound t ≡ s → Takes onGap t (cond s (heardStep (onGap (receptionOf (t .receiver))) t) (responding t (Refused BrokenRule)))
-    go true e = heard e (hears _ _)
-    go false e = untaken BrokenRule (broken e) refl
-
-pub gap-completes-none : {X : Type 0} (h : Reception) (c : Command) (s : List ℕ) → onGap h .outcome ≡ Complete c s → X
-unfolding onGap
-gap-completes-none Awaiting c s e = impossible (cc)
-gap-completes-none Skipping c s e = impossible (cc)
-gap-completes-none (Partial p) c s e = impossible (cc)
-
-abbrev pub emptied : Tool → Tool
-emptied t = withReceiver (holding Awaiting (t .receiver)) t
-
--- A session end.
-pub data Closes (t : Tool) (r : Response) : Type 0 where
-  unclosed : (x : Refusal) → Stays t x → r ≡ responding t (Refused x) → Closes t r
-  still : sound t ≡ true → idle (t .phase) ≡ true → r ≡ silent (emptied t) → Closes t r
-  ended : sound t ≡ true → idle (t .phase) ≡ false → r ≡ over (emptied t) (Refused SessionEnded) → Closes t r
-
-pub closes : (t : Tool) → Closes t (afterSessionEnd t)
-unfolding afterSessionEnd
-closes t = go (sound t) (idle (t .phase)) refl refl
-  where
-    go : (s i : Bool) → sound t ≡ s → idle (t .phase) ≡ i → Closes t (cond s (cond i (silent (emptied t)) (over (emptied t) (Refused SessionEnded))) (responding t (Refused BrokenRule)))
-    go true true es ei = still es ei refl
-    go true false es ei = ended es ei refl
-    go false i es ei = unclosed BrokenRule (broken es) refl
+  pub course : (x : Call) → Course t x (after t x)
+  unfolding after
+  course (Ask q l) = ask-course q l
+  course (Octet o l) = octet-course o l
+  course Gap = gap-course
+  course SessionEnd = session-end-course

@@ -3,15 +3,19 @@ use mathlib.Core.Path.{_≡_, refl}
 use mathlib.Core.List.{List}
 use Prim.Native.Nat.{ℕ}
 use Rattle.octets.specs.Splice.{fronted}
+use Rattle.numbers.specs.Answer.{Answer}
 use Rattle.tool.specs.declared.Tool.{Tool}
-use Rattle.tool.specs.declared.Answer.{Answer}
-use Rattle.tool.specs.Parts.{Response, responding, Gives}
+use Rattle.tool.specs.Answers.{Progress}
+use Rattle.tool.specs.Parts.{Response, Told, responding, finished, told, Gives}
 
-module _ {A : Type 0} (shape : Response → A) (b a : List ℕ) (given : A) where
-  pub gives-alike : (r q : Response) → r ≡ q → Gives shape r b a given → Gives shape q b a given
-  gives-alike r q e g = rw e at g
+pub gives-alike : (b a : List ℕ) (given : Told) (r q : Response) → r ≡ q → Gives r b a given → Gives q b a given
+gives-alike b a given r q e g = rw e at g
 
 -- the buffer is left
-pub gives-nothing : {A : Type 0} (shape : Response → A) (t : Tool) (a : Answer) (b : List ℕ) (given : A) → given ≡ shape (responding t a) → Gives shape (responding t a) b b given
+pub gives-nothing : (t : Tool) (a : Answer Progress) (b : List ℕ) (given : Told) → given ≡ told (responding t a) → Gives (responding t a) b b given
 unfolding fronted
-gives-nothing shape t a b given e = record { step = e; buffer = refl }
+gives-nothing t a b given e = record { answer = e; buffer = refl }
+
+pub gives-finished : (t : Tool) (d b : List ℕ) (given : Told) → given ≡ told (finished d t) → Gives (finished d t) b b given
+unfolding fronted
+gives-finished t d b given e = record { answer = e; buffer = refl }

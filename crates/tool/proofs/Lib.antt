@@ -1,15 +1,16 @@
 pub mod Lengths
 pub mod Sound
-pub mod Numbers
+mod Answers
 mod Gives
-mod Admission
-mod Lent
-mod Unsent
+pub mod Admission
 mod Receiving
+pub mod Turning
+pub mod Effects
 pub mod Endings
 pub mod Courses
 pub mod Refusals
 pub mod StaysSound
+pub mod Feeding
+pub mod Logging
 pub mod Authentication
-pub mod Waking
 pub mod Running

@@ -1,114 +1,110 @@
--- What a refusal leaves is 01's table.
+-- What a refusal leaves is 01's table, and 12 is given to tools alone that are not sound.
 use Prim.Native.Nat.{ℕ}
 use mathlib.Core.Path.{_≡_, refl, sym, ap, _∙_}
-use mathlib.Core.Bool.{Bool, true, false, cond, _&&_}
-use mathlib.Core.List.{List, []}
+use mathlib.Core.Bool.{false}
 use lib.Dec.{eqb}
-use lib.ListN.{length}
-use Rattle.frame.specs.declared.codes.Command.{Command}
-use Rattle.frame.specs.declared.content.Fields.{Fields}
-use Rattle.receiver.specs.declared.Receiver.{Receiver}
-use Rattle.receiver.specs.Receiving.{Reception, Step}
-use Rattle.wake.specs.declared.Request.{Request}
-use Rattle.tool.specs.declared.Phase.the-variants.{Idle}
-use Rattle.tool.specs.declared.Tool.{Tool}
-use Rattle.tool.specs.declared.Refusal.{Refusal}
-use Rattle.tool.specs.declared.Refusal.the-variants.{BadFrame, WrongAddress, TooLong, BrokenRule, WrongCipher, WrongEcho, SessionEnded, Busy, WrongLength, Unexpected, Rejected}
-use Rattle.tool.specs.declared.Answer.{Answer}
-use Rattle.tool.specs.declared.Answer.the-variants.{Nothing, Sent, Done, Refused}
-use Rattle.tool.specs.Parts.{inPhase, withReceiver, Response, responding}
-use Rattle.tool.specs.Requests.{programming, afterRead, afterTransfer, afterProgram, afterBroadcast, afterInitialise}
-use Rattle.tool.specs.Events.{Call, Read, Transfer, Program, Broadcast, Initialise, Octet, Gap, SessionEnd, after}
-use Rattle.tool.specs.Leaving.{endsRequest, leftBy}
+use borrow.Author.Tests.{ne-eqb}
 use Rattle.octets.proofs.Impossible.{impossible}
-use Rattle.tool.proofs.Endings.{Ends, quiet, well, ill, echoed}
-use Rattle.tool.proofs.Courses.{Stays, address, amount, busy, lengths, broken, Asks, unasked, sent, asks, nothing, dropped, framed, Takes, untaken, heard, takes-octet, takes-gap, Closes, unclosed, still, ended, closes}
-
--- where the response r of the tool t is a refusal, it leaves what 01's table says, sends nothing and hands nothing out
-abbrev Leaves : Tool → Response → Type 0
-Leaves t r = (x : Refusal) → r .answer ≡ Refused x → r ≡ responding (leftBy x t (r .tool .receiver)) (Refused x)
-
-leaves-refused : (t u : Tool) (y : Refusal) (r : Response) → r ≡ responding u (Refused y) → u ≡ leftBy y t (u .receiver) → Leaves t r
-leaves-refused t u y r e k x a =
-    let q : y ≡ x = cc (ap (λ (s : Response). s .answer) e) in
-    let m = ap (λ (s : Response). s .tool .receiver) e in
-    e ∙ ap (λ v. responding v (Refused y)) k ∙ ap (λ z. responding (leftBy z t (u .receiver)) (Refused z)) q ∙ ap (λ c. responding (leftBy x t c) (Refused x)) (sym m)
-
--- an answer that is no refusal
-unrefused : (t : Tool) (r : Response) (a : Answer) → r .answer ≡ a → ((x : Refusal) → a ≡ Refused x → ⊥) → Leaves t r
-unrefused t r a e n x q = absurd (n x (sym e ∙ q))
-
-nothing-unrefused : (x : Refusal) → Nothing ≡ Refused x → ⊥
-nothing-unrefused x e = impossible (cc)
-
-sent-unrefused : (x : Refusal) → Sent ≡ Refused x → ⊥
-sent-unrefused x e = impossible (cc)
-
-done-unrefused : (x : Refusal) → Done ≡ Refused x → ⊥
-done-unrefused x e = impossible (cc)
+use Rattle.numbers.specs.Answer.{Answer, given, refused, numberOf}
+use Rattle.numbers.specs.Table.{none, brokenRule}
+use Rattle.receiver.specs.declared.Receiver.{Receiver}
+use Rattle.tool.specs.declared.Tool.{Tool}
+use Rattle.tool.specs.Answers.{Progress, nothing, sent, done}
+use Rattle.tool.specs.Parts.{withReceiver, ended, Response, refusing}
+use Rattle.tool.specs.Soundness.{sound}
+use Rattle.tool.specs.Requests.{progressOf}
+use Rattle.tool.specs.Events.{Call, after}
+use Rattle.tool.specs.Leaving.{Effect, KeepsAll, ReceiverOnly, Over, effectOf, leftAs}
+use Rattle.tool.proofs.Courses.{Course, stays, asks, passes, drops, ends, fails, echoes, course}
 
 answer-of : {r s : Response} → r ≡ s → r .answer ≡ s .answer
 answer-of e = ap (λ (s : Response). s .answer) e
 
-stays-left : (t : Tool) (x : Refusal) (c : Receiver) → Stays t x → t ≡ leftBy x t c
-unfolding leftBy
-stays-left t WrongAddress c address = refl
-stays-left t TooLong c amount = refl
-stays-left t Busy c busy = refl
-stays-left t WrongLength c lengths = refl
-stays-left t BrokenRule c (broken e) = refl
+-- an answer without a number is none with one
+unrefused : {X : Type 0} {r s : Response} (p : Progress) (n : ℕ) → r ≡ s → s .answer ≡ given p → r .answer ≡ refused n → X
+unrefused p n e g q =
+    let z : given p ≡ refused n = sym g ∙ sym (answer-of e) ∙ q in
+    impossible (cc)
 
-stays-leaves : (t : Tool) (x : Refusal) (r : Response) → Stays t x → r ≡ responding t (Refused x) → Leaves t r
-stays-leaves t x r s e = leaves-refused t t x r e (stays-left t x (t .receiver) s)
+same-number : {r s : Response} {m n : ℕ} → r ≡ s → s .answer ≡ refused m → r .answer ≡ refused n → m ≡ n
+same-number {m = m} {n = n} e g q =
+    let z : refused m ≡ refused n = sym g ∙ sym (answer-of e) ∙ q in
+    cc
 
-ends-left : (t : Tool) (x : Refusal) (c : Receiver) → endsRequest x ≡ true → inPhase Idle (withReceiver c t) ≡ leftBy x t c
-unfolding leftBy
-ends-left t (BadFrame f) c e = impossible (cc)
-ends-left t WrongAddress c e = impossible (cc)
-ends-left t TooLong c e = impossible (cc)
-ends-left t BrokenRule c e = impossible (cc)
-ends-left t WrongCipher c e = refl
-ends-left t WrongEcho c e = refl
-ends-left t SessionEnded c e = refl
-ends-left t Busy c e = impossible (cc)
-ends-left t WrongLength c e = impossible (cc)
-ends-left t Unexpected c e = refl
-ends-left t Rejected c e = refl
+-- the response r of the tool t, where it is a refusal, leaves what the table says, sends nothing and hands nothing out
+abbrev Leaves : Tool → Response → Type 0
+Leaves t r = (n : ℕ) → r .answer ≡ refused n → r ≡ refusing (leftAs (effectOf n) t (r .tool .receiver)) n
 
-asks-leaves : (t : Tool) (q : Request) (ads d : List ℕ) (room : ℕ) (s r : Response) → ((x : Refusal) → s .answer ≡ Refused x → ⊥) → Asks t q ads d room s r → Leaves t r
-asks-leaves t q ads d room s r n (unasked x k e) = stays-leaves t x r k e
-asks-leaves t q ads d room s r n (sent p e) = unrefused t r (s .answer) (answer-of e) n
+leaves : (t u : Tool) (m : ℕ) (r : Response) → r ≡ refusing u m → u ≡ leftAs (effectOf m) t (u .receiver) → Leaves t r
+leaves t u m r e k n a =
+    let q : m ≡ n = same-number e refl a in
+    rw (e, ← q) (ap (λ (v : Tool). refusing v m) k)
 
-ends-leaves : (t : Tool) (n : Receiver) (c : Command) (f : Fields) (d : List ℕ) (r : Response) → Ends (withReceiver n t) c f d r → Leaves t r
-ends-leaves t n c f d r (quiet e) = unrefused t r Nothing (answer-of e) nothing-unrefused
-ends-leaves t n c f d r (well w s e) = unrefused t r Done (answer-of e) done-unrefused
-ends-leaves t n c f d r (ill w x p e) = leaves-refused t _ x r e (ends-left t x n p)
-ends-leaves t n c f d r (echoed w h e) = unrefused t r Sent (answer-of e) sent-unrefused
+module _ (t : Tool) (c : Receiver) (n : ℕ) where
+  keeps-all : effectOf n ≡ KeepsAll → t ≡ leftAs (effectOf n) t c
+  unfolding leftAs
+  keeps-all e = rw e
 
-takes-leaves : (f : Reception → Step) (t : Tool) (r : Response) → Takes f t r → Leaves t r
-unfolding leftBy
-takes-leaves f t r (untaken x s e) = stays-leaves t x r s e
-takes-leaves f t r (heard k (nothing e)) = unrefused t r Nothing (answer-of e) nothing-unrefused
-takes-leaves f t r (heard k (dropped g e)) = leaves-refused t _ (BadFrame g) r e refl
-takes-leaves f t r (heard k (framed c s u e)) = ends-leaves t _ c _ _ r e
+  receiver-only : effectOf n ≡ ReceiverOnly → withReceiver c t ≡ leftAs (effectOf n) t c
+  unfolding leftAs
+  receiver-only e = rw e
 
-closes-leaves : (t : Tool) (r : Response) → Closes t r → Leaves t r
-closes-leaves t r (unclosed x s e) = stays-leaves t x r s e
-closes-leaves t r (still k i e) = unrefused t r Nothing (answer-of e) nothing-unrefused
-closes-leaves t r (ended k i e) = leaves-refused t _ SessionEnded r e (ends-left t SessionEnded _ refl)
+  is-over : effectOf n ≡ Over → ended (withReceiver c t) ≡ leftAs (effectOf n) t c
+  unfolding leftAs
+  is-over e = rw e
+
+course-leaves : (t : Tool) (x : Call) (r : Response) → Course t x r → Leaves t r
+course-leaves t x r (stays m s e) = leaves t t m r e (keeps-all t (t .receiver) m (s .all))
+course-leaves t x r (asks q l z p a e) = λ n b. unrefused (progressOf (q .request)) n e refl b
+course-leaves t x r (passes v e) = λ n b. unrefused nothing n e refl b
+course-leaves t x r (drops v m f e) = leaves t _ m r e (receiver-only t _ m f)
+course-leaves t x r (ends v i d e) = λ n b. unrefused done n e refl b
+course-leaves t x r (fails v i m f e) = leaves t _ m r e (is-over t _ m f)
+course-leaves t x r (echoes v c s u w h e) = λ n b. unrefused sent n e refl b
 
 -- what every refusal of every call leaves: 01's table, with nothing sent, nothing handed out and no wake-up
-pub refusal-leaves : (t : Tool) (call : Call) (x : Refusal) → after t call .answer ≡ Refused x → after t call ≡ responding (leftBy x t (after t call .tool .receiver)) (Refused x)
-unfolding after afterRead afterTransfer afterProgram afterBroadcast afterInitialise
-refusal-leaves t (Read ads adp tab room) = asks-leaves t _ ads [] room _ _ sent-unrefused (asks t _ ads [] room _)
-refusal-leaves t (Transfer ads adp tab d room) = asks-leaves t _ ads d room _ _ sent-unrefused (asks t _ ads d room _)
-refusal-leaves t (Program ads adp tab d key na1 room) = go (eqb (length key) 8 && eqb (length na1) 8)
-  where
-    go : (b : Bool) → Leaves t (cond b (programming t ads adp tab d key na1 room) (responding t (Refused WrongLength)))
-    go true = asks-leaves t _ ads d room _ _ sent-unrefused (asks t _ ads d room _)
-    go false = stays-leaves t WrongLength _ lengths refl
-refusal-leaves t (Broadcast ads adp tab d room) = asks-leaves t _ ads d room _ _ done-unrefused (asks t _ ads d room _)
-refusal-leaves t (Initialise ads adp room) = asks-leaves t _ ads [] room _ _ done-unrefused (asks t _ ads [] room _)
-refusal-leaves t (Octet o room) = takes-leaves _ t _ (takes-octet t o room)
-refusal-leaves t Gap = takes-leaves _ t _ (takes-gap t)
-refusal-leaves t SessionEnd = closes-leaves t _ (closes t)
+pub refusal-leaves : (t : Tool) (x : Call) (n : ℕ) → after t x .answer ≡ refused n → after t x ≡ refusing (leftAs (effectOf n) t (after t x .tool .receiver)) n
+refusal-leaves t x = course-leaves t x (after t x) (course t x)
+
+-- 12 is given to tools alone that are not sound
+course-unsound : (t : Tool) (x : Call) (r : Response) → Course t x r → r .answer ≡ refused brokenRule → sound t ≡ false
+course-unsound t x r (stays m s e) b = s .unsound (same-number e refl b)
+course-unsound t x r (asks q l z p a e) b = unrefused (progressOf (q .request)) brokenRule e refl b
+course-unsound t x r (passes v e) b = unrefused nothing brokenRule e refl b
+course-unsound t x r (drops v m f e) b = let z : ReceiverOnly ≡ effectOf brokenRule = sym f ∙ ap effectOf (same-number e refl b) in impossible (cc)
+course-unsound t x r (ends v i d e) b = unrefused done brokenRule e refl b
+course-unsound t x r (fails v i m f e) b = let z : Over ≡ effectOf brokenRule = sym f ∙ ap effectOf (same-number e refl b) in impossible (cc)
+course-unsound t x r (echoes v c s u w h e) b = unrefused sent brokenRule e refl b
+
+pub unsound-if-12 : (t : Tool) (x : Call) → after t x .answer ≡ refused brokenRule → sound t ≡ false
+unsound-if-12 t x = course-unsound t x (after t x) (course t x)
+
+-- every call answers with a number, or without one
+pub data Plain (a : Answer Progress) : Type 0 where
+  numbered : (n : ℕ) → a ≡ refused n → eqb n none ≡ false → Plain a
+  unnumbered : (p : Progress) → a ≡ given p → Plain a
+
+effect-numbered : (n : ℕ) (f : Effect) → effectOf n ≡ f → (effectOf none ≡ f → ⊥) → eqb n none ≡ false
+effect-numbered n f e d = ne-eqb n none (λ z. d (sym (ap effectOf z) ∙ e))
+
+course-plain : (t : Tool) (x : Call) (r : Response) → Course t x r → Plain (r .answer)
+course-plain t x r (stays m s e) = numbered m (answer-of e) (s .numbered)
+course-plain t x r (asks q l z p a e) = unnumbered (progressOf (q .request)) (answer-of e)
+course-plain t x r (passes v e) = unnumbered nothing (answer-of e)
+course-plain t x r (drops v m f e) = numbered m (answer-of e) (effect-numbered m ReceiverOnly f (λ z. impossible (cc)))
+course-plain t x r (ends v i d e) = unnumbered done (answer-of e)
+course-plain t x r (fails v i m f e) = numbered m (answer-of e) (effect-numbered m Over f (λ z. impossible (cc)))
+course-plain t x r (echoes v c s u w h e) = unnumbered sent (answer-of e)
+
+plain-number : (a : Answer Progress) (n : ℕ) → Plain a → eqb n none ≡ false → numberOf a ≡ n → a ≡ refused n
+plain-number a n (numbered m e z) f q = e ∙ ap refused (sym (ap numberOf e) ∙ q)
+plain-number a n (unnumbered p e) f q =
+    let z : eqb none none ≡ false = rw (← (sym (ap numberOf e) ∙ q)) at f in
+    impossible (cc)
+
+-- the answer by its number
+pub by-number : (t : Tool) (x : Call) (n : ℕ) → eqb n none ≡ false → numberOf (after t x .answer) ≡ n → after t x .answer ≡ refused n
+by-number t x n = plain-number (after t x .answer) n (course-plain t x (after t x) (course t x))
+
+pub plain : (t : Tool) (x : Call) → Plain (after t x .answer)
+plain t x = course-plain t x (after t x) (course t x)

@@ -1,97 +1,93 @@
 -- When a request runs: after one that was sent and waits, and not after one that is done; with none running, frames are dropped.
 use Prim.Native.Nat.{ℕ}
-use mathlib.Core.Path.{_≡_, refl, sym, _∙_}
-use mathlib.Core.Bool.{Bool, true, false, cond, _&&_}
-use mathlib.Core.List.{List, []}
-use lib.Dec.{eqb}
-use lib.ListN.{length}
-use Rattle.receiver.specs.declared.Receiver.{Receiver}
-use Rattle.receiver.specs.Receiving.{Reception, Step, onOctet}
-use Rattle.wake.specs.declared.Request.{Request}
-use Rattle.tool.specs.declared.Tool.{Tool}
-use Rattle.tool.specs.declared.Refusal.{Refusal}
-use Rattle.tool.specs.declared.Refusal.the-variants.{WrongLength}
-use Rattle.tool.specs.declared.Answer.{Answer}
-use Rattle.tool.specs.declared.Answer.the-variants.{Nothing, Sent, Done, Refused}
-use Rattle.tool.specs.Parts.{withReceiver, Response, responding}
-use Rattle.tool.specs.Requests.{idle, programming, afterRead, afterTransfer, afterProgram, afterBroadcast, afterInitialise}
-use Rattle.tool.specs.Events.{Call, Read, Transfer, Program, Broadcast, Initialise, Octet, Gap, SessionEnd, after}
+use mathlib.Core.Path.{_≡_, refl, sym, ap, _∙_}
+use mathlib.Core.Bool.{Bool, true, false, cond}
 use Rattle.octets.proofs.Impossible.{impossible}
-use Rattle.tool.proofs.Admission.{Admits}
-use Rattle.tool.proofs.Endings.{quiet, well, ill, echoed}
-use Rattle.tool.proofs.Courses.{Asks, unasked, sent, asks, nothing, dropped, framed, Takes, untaken, heard, takes-octet, takes-gap, Closes, unclosed, still, ended, closes}
+use Rattle.numbers.specs.Answer.{Answer, given, refused}
+use Rattle.numbers.specs.Table.{brokenRule, sessionEnded}
+use Rattle.receiver.specs.declared.Receiver.{Receiver}
+use Rattle.receiver.specs.Receiving.{Reception, Awaiting, Skipping, Partial, onGap}
+use Rattle.receiver.specs.Receiver.{receptionOf}
+use Rattle.wake.specs.declared.Request.{Request}
+use Rattle.wake.specs.declared.Request.the-variants.{Enq, Trf, Rec, Trb, Ib}
+use Rattle.tool.specs.declared.Tool.{Tool}
+use Rattle.tool.specs.Answers.{Progress, nothing, sent, done, isDone}
+use Rattle.tool.specs.Parts.{idle, withReceiver, Response, responding, silent, refusing, over}
+use Rattle.tool.specs.Soundness.{sound}
+use Rattle.tool.specs.Requests.{Asking, progressOf, running}
+use Rattle.tool.specs.Events.{afterStep, heardAs, afterGap, afterSessionEnd, Call, Octet, Gap, SessionEnd, after}
+use Rattle.tool.proofs.Courses.{moved, Course, stays, asks, passes, drops, ends, fails, echoes, course}
 
 -- what an answer says of the request: it waits for a reply, or it has ended
-abbrev Says : Response → Type 0
-Says r = (r .answer ≡ Sent → idle (r .tool .phase) ≡ false) × (r .answer ≡ Done → idle (r .tool .phase) ≡ true)
+pub record Says (r : Response) : Type 0 where
+  pub waits : r .answer ≡ given sent → idle (r .tool .phase) ≡ false
+  pub over : r .answer ≡ given done → idle (r .tool .phase) ≡ true
 
 says-of : {r s : Response} → r ≡ s → Says s → Says r
 says-of e k = rw e k
 
-nothing-says : {r : Response} {t : Tool} → r ≡ responding t Nothing → Says r
-nothing-says {r} {t} e = rw e (λ q. impossible (cc), λ q. impossible (cc))
+running-says : (r : Request) (q : Asking) (t : Tool) → (progressOf r ≡ sent → idle (running r q t .phase) ≡ false) × (progressOf r ≡ done → idle (running r q t .phase) ≡ true)
+running-says Enq q t = (λ e. refl, λ e. impossible (cc))
+running-says Trf q t = (λ e. refl, λ e. impossible (cc))
+running-says Rec q t = (λ e. refl, λ e. impossible (cc))
+running-says Trb q t = (λ e. impossible (cc), λ e. refl)
+running-says Ib q t = (λ e. impossible (cc), λ e. refl)
 
-refused-says : {r : Response} {t : Tool} {x : Refusal} → r ≡ responding t (Refused x) → Says r
-refused-says {r} {t} {x} e = rw e (λ q. impossible (cc), λ q. impossible (cc))
+given-alike : (p q : Progress) → given p ≡ given q → p ≡ q
+given-alike p q e = cc
 
-asks-says : (t : Tool) (q : Request) (ads d : List ℕ) (room : ℕ) (s r : Response) → (Admits t q ads d room → Says s) → Asks t q ads d room s r → Says r
-asks-says t q ads d room s r n (unasked x k e) = refused-says e
-asks-says t q ads d room s r n (sent p e) = says-of e (n p)
+course-says : (t : Tool) (x : Call) (r : Response) → Course t x r → Says r
+course-says t x r (stays n s e) = says-of e (record { waits = λ q. impossible (cc); over = λ q. impossible (cc) })
+course-says t x r (asks q l z p a e) =
+    let k = running-says (q .request) q t in
+    says-of e (record { waits = λ b. k .0 (given-alike _ _ b); over = λ b. k .1 (given-alike _ _ b) })
+course-says t x r (passes v e) = says-of e (record { waits = λ q. impossible (cc); over = λ q. impossible (cc) })
+course-says t x r (drops v n f e) = says-of e (record { waits = λ q. impossible (cc); over = λ q. impossible (cc) })
+course-says t x r (ends v i d e) = says-of e (record { waits = λ q. impossible (cc); over = λ q. refl })
+course-says t x r (fails v i n f e) = says-of e (record { waits = λ q. impossible (cc); over = λ q. impossible (cc) })
+course-says t x r (echoes v c s u w h e) = says-of e (record { waits = λ q. refl; over = λ q. impossible (cc) })
 
-takes-says : (f : Reception → Step) (t : Tool) (r : Response) → Takes f t r → Says r
-takes-says f t r (untaken x s e) = refused-says e
-takes-says f t r (heard k (nothing e)) = nothing-says e
-takes-says f t r (heard k (dropped g e)) = refused-says e
-takes-says f t r (heard k (framed c s u (quiet e))) = nothing-says e
-takes-says f t r (heard k (framed c s u (well w d e))) = says-of e (λ q. impossible (cc), λ q. refl)
-takes-says f t r (heard k (framed c s u (ill w x p e))) = refused-says e
-takes-says f t r (heard k (framed c s u (echoed w h e))) = says-of e (λ q. refl, λ q. impossible (cc))
-
-closes-says : (t : Tool) (r : Response) → Closes t r → Says r
-closes-says t r (unclosed x s e) = refused-says e
-closes-says t r (still k i e) = nothing-says e
-closes-says t r (ended k i e) = refused-says e
-
--- after `Sent` a request runs, after `Done` none does: broadcast and initialise, whose answer is `Done`, are done once sent
-pub says : (t : Tool) (call : Call) → (after t call .answer ≡ Sent → idle (after t call .tool .phase) ≡ false) × (after t call .answer ≡ Done → idle (after t call .tool .phase) ≡ true)
-unfolding after afterRead afterTransfer afterProgram afterBroadcast afterInitialise
-says t (Read ads adp tab room) = asks-says t _ ads [] room _ _ (λ p. (λ e. refl, λ e. impossible (cc))) (asks t _ ads [] room _)
-says t (Transfer ads adp tab d room) = asks-says t _ ads d room _ _ (λ p. (λ e. refl, λ e. impossible (cc))) (asks t _ ads d room _)
-says t (Program ads adp tab d key na1 room) = go (eqb (length key) 8 && eqb (length na1) 8)
-  where
-    go : (b : Bool) → Says (cond b (programming t ads adp tab d key na1 room) (responding t (Refused WrongLength)))
-    go true = asks-says t _ ads d room _ _ (λ p. (λ e. refl, λ e. impossible (cc))) (asks t _ ads d room _)
-    go false = refused-says {t = t} refl
-says t (Broadcast ads adp tab d room) = asks-says t _ ads d room _ _ (λ p. (λ e. impossible (cc), λ e. p .idle)) (asks t _ ads d room _)
-says t (Initialise ads adp room) = asks-says t _ ads [] room _ _ (λ p. (λ e. impossible (cc), λ e. p .idle)) (asks t _ ads [] room _)
-says t (Octet o room) = takes-says _ t _ (takes-octet t o room)
-says t Gap = takes-says _ t _ (takes-gap t)
-says t SessionEnd = closes-says t _ (closes t)
+-- after "sent" a request runs, after "done" none does: broadcast and initialise, which are told "done", are done once sent
+pub says : (t : Tool) (x : Call) → Says (after t x)
+says t x = course-says t x (after t x) (course t x)
 
 -- nothing but the receiver has changed, nothing is sent or handed out, and no request has ended
 pub record Dropped (t : Tool) (r : Response) : Type 0 where
   pub response : r ≡ responding (withReceiver (r .tool .receiver) t) (r .answer)
-  pub unended : r .answer ≡ Done → ⊥
+  pub unended : r .answer ≡ given done → ⊥
 
-drops : {t : Tool} {r : Response} (c : Receiver) (a : Answer) → (a ≡ Done → ⊥) → r ≡ responding (withReceiver c t) a → Dropped t r
-drops c a n e = rw e (record { response = refl; unended = n })
+dropped : {t : Tool} {r : Response} (c : Receiver) (a : Answer Progress) → (a ≡ given done → ⊥) → r ≡ responding (withReceiver c t) a → Dropped t r
+dropped c a n e = rw e (record { response = refl; unended = n })
 
-nothing-unended : Nothing ≡ Done → ⊥
-nothing-unended e = impossible (cc)
-
-refused-unended : (x : Refusal) → Refused x ≡ Done → ⊥
-refused-unended x e = impossible (cc)
-
-takes-drops : (f : Reception → Step) (t : Tool) (r : Response) → idle (t .phase) ≡ true → Takes f t r → Dropped t r
-takes-drops f t r i (untaken x s e) = drops (t .receiver) (Refused x) (refused-unended x) e
-takes-drops f t r i (heard k (nothing e)) = drops _ Nothing nothing-unended e
-takes-drops f t r i (heard k (dropped g e)) = drops _ _ (refused-unended _) e
-takes-drops f t r i (heard k (framed c s u (quiet e))) = drops _ Nothing nothing-unended e
-takes-drops f t r i (heard k (framed c s u (well w d e))) = let z : false ≡ true = sym (w .running) ∙ i in impossible (cc)
-takes-drops f t r i (heard k (framed c s u (ill w x p e))) = let z : false ≡ true = sym (w .running) ∙ i in impossible (cc)
-takes-drops f t r i (heard k (framed c s u (echoed w h e))) = let z : false ≡ true = sym (w .running) ∙ i in impossible (cc)
+course-drops : (t : Tool) (o l : ℕ) (r : Response) → idle (t .phase) ≡ true → Course t (Octet o l) r → Dropped t r
+course-drops t o l r i (stays n s e) = dropped (t .receiver) (refused n) (λ q. impossible (cc)) e
+course-drops t o l r i (asks q b z p a e) = impossible (cc)
+course-drops t o l r i (passes v e) = dropped _ (given nothing) (λ q. impossible (cc)) e
+course-drops t o l r i (drops v n f e) = dropped _ (refused n) (λ q. impossible (cc)) e
+course-drops t o l r i (ends v w d e) = let z : false ≡ true = sym w ∙ i in impossible (cc)
+course-drops t o l r i (fails v w n f e) = let z : false ≡ true = sym w ∙ i in impossible (cc)
+course-drops t o l r i (echoes v c s u w h e) = let z : false ≡ true = sym (w .running) ∙ i in impossible (cc)
 
 -- "with no request running, frames are dropped"
-pub idle-drops : (t : Tool) (o room : ℕ) → idle (t .phase) ≡ true → Dropped t (after t (Octet o room))
-unfolding after
-idle-drops t o room i = takes-drops (onOctet o) t _ i (takes-octet t o room)
+pub idle-drops : (t : Tool) (o l : ℕ) → idle (t .phase) ≡ true → Dropped t (after t (Octet o l))
+idle-drops t o l i = course-drops t o l (after t (Octet o l)) i (course t (Octet o l))
+
+-- a gap and a session end end no request without a number
+pub gap-undone : (t : Tool) → isDone (after t Gap .answer) ≡ false
+unfolding after afterGap heardAs onGap
+gap-undone t = go (sound t) (receptionOf (t .receiver))
+  where
+    go : (s : Bool) (h : Reception) → isDone (cond s (heardAs (onGap h .outcome) (afterStep (onGap h) t)) (refusing t brokenRule) .answer) ≡ false
+    go true Awaiting = refl
+    go true Skipping = refl
+    go true (Partial s) = refl
+    go false h = refl
+
+pub session-end-undone : (t : Tool) → isDone (after t SessionEnd .answer) ≡ false
+unfolding after afterSessionEnd
+session-end-undone t = go (sound t) (idle (t .phase))
+  where
+    go : (s i : Bool) → isDone (cond s (cond i (silent (moved SessionEnd t)) (over (moved SessionEnd t) sessionEnded)) (refusing t brokenRule) .answer) ≡ false
+    go true true = refl
+    go true false = refl
+    go false i = refl

@@ -1,8 +1,10 @@
-pub mod Numbers
+pub mod Answers
 pub mod Parts
 pub mod Soundness
 pub mod Requests
 pub mod Replies
 pub mod Events
 pub mod Leaving
-pub mod Lists
+pub mod Feeding
+pub mod Log
+pub mod Claims

@@ -6,10 +6,11 @@ use Rattle.receiver.specs.Receiver as receiver
 use Rattle.tool.specs.declared.Phase.{Phase}
 use Rattle.tool.specs.declared.Phase.the-variants.{Idle, Reading, Transferring, Programming, Authenticating}
 use Rattle.tool.specs.declared.Tool.{Tool}
+use Rattle.frame.specs.Sizes.{mostProgrammed}
 
 -- how many octets of DATA a programming request has sent
 abbrev pub sentLength : Phase → ℕ
-sentLength Idle = 0
+sentLength (Idle last) = 0
 sentLength (Reading tab) = 0
 sentLength Transferring = 0
 sentLength (Programming tab n) = n .0
@@ -17,7 +18,7 @@ sentLength Authenticating = 0
 
 -- no more DATA than a REC can have
 abbrev pub fitting : Phase → Bool
-fitting p = leb (sentLength p) 100
+fitting p = leb (sentLength p) mostProgrammed
 
 -- "a card, tool or card memory that breaks a setup rule, holds a length over its limit or a state mark not in use is refused with 12 ..; so is a
 -- partly received frame whose N answer 1 would refuse, or with as many octets as its N states or more." A tool has no setup rule, and every
@@ -27,5 +28,5 @@ sound t = fitting (t .phase) && receiver.sound (t .receiver)
 
 -- the same rules one by one
 pub record Sound (t : Tool) : Type 0 where
-  pub sent : sentLength (t .phase) ≤ 100
+  pub sent : sentLength (t .phase) ≤ mostProgrammed
   pub receiver : receiver.Sound (t .receiver)

@@ -2,27 +2,30 @@
 ghost use mathlib.Core.Path.{_≡_};
 ghost use Prim.Native.Nat.{_≤_};
 ghost use lib.ListN.{length, getD, take};
-ghost use Rattle.frame.specs.declared.checks.Verdict.the-variants.{Good};
+ghost use Rattle.numbers.specs.Answer.{given};
 ghost use Rattle.frame.specs.Checks.{inspected};
 ghost use Rattle.frame.specs.Content.{fieldsOf, dataOf};
-ghost use Rattle.tool.specs.Parts.{answered, heard, Gives};
+ghost use Rattle.receiver.specs.Receiving.{onOctet};
+ghost use Rattle.receiver.specs.Receiver.{receptionOf};
+ghost use Rattle.frame.specs.Sizes.{mostProgrammed, longestFrame};
+ghost use Rattle.tool.specs.Parts.{told, answerOfAnswered, answerOfHeard, Gives};
 ghost use Rattle.tool.specs.Soundness.{Sound, sentLength};
 ghost use Rattle.tool.specs.Replies.{onFrame};
-ghost use Rattle.tool.specs.Events.{hearing, afterOctet, afterGap, afterSessionEnd};
+ghost use Rattle.tool.specs.Events.{heardStep, afterOctet, afterGap, afterSessionEnd};
 use crate::Answer;
 use crate::Answered;
 use crate::Heard;
-use crate::Phase;
 use crate::Refusal;
 use crate::Tool;
 use frame::Command;
+use frame::sizes::LONGEST_FRAME;
 use receiver::Event;
 
 impl Tool {
     // A whole good frame: its octets, as many as its N says, then zeros.
-    fn heard_frame(self, command: Command, whole: [u8; 128], frame: &mut [u8]) -> Heard
-        requires { ⌜ (sentLength (self .phase) ≤ 100) × ((inspected (take (getD whole 0 0) whole) ≡ Good command) × (128 ≤ length (now frame))) ⌝ }
-        ensures { λ r. ⌜ Gives heard (onFrame self command (fieldsOf command (take (getD whole 0 0) whole)) (dataOf command (take (getD whole 0 0) whole))) (now (frame .entry)) (now (frame .exit)) r ⌝ }
+    fn heard_frame(self, command: Command, whole: [u8; LONGEST_FRAME], frame: &mut [u8]) -> Heard
+        requires { ⌜ (sentLength (self .phase) ≤ mostProgrammed) × ((inspected (take (getD whole 0 0) whole) ≡ given command) × (longestFrame ≤ length (now frame))) ⌝ }
+        ensures { λ r. ⌜ Gives (onFrame self command (fieldsOf command (take (getD whole 0 0) whole)) (dataOf command (take (getD whole 0 0) whole))) (now (frame .entry)) (now (frame .exit)) (answerOfHeard r) ⌝ }
     {
         let end = whole[0] as usize;
         let octets = &whole[..end];
@@ -33,8 +36,8 @@ impl Tool {
 
     // One octet more for the receiver, and what the tool does with a frame that it completes.
     fn heard(self, octet: u8, frame: &mut [u8]) -> Heard
-        requires { ⌜ (Sound self) × (128 ≤ length (now frame)) ⌝ }
-        ensures { λ r. ⌜ Gives heard (hearing self octet) (now (frame .entry)) (now (frame .exit)) r ⌝ }
+        requires { ⌜ (Sound self) × (longestFrame ≤ length (now frame)) ⌝ }
+        ensures { λ r. ⌜ Gives (heardStep (onOctet octet (receptionOf (self .receiver))) self) (now (frame .entry)) (now (frame .exit)) (answerOfHeard r) ⌝ }
     {
         let receiver = self.receiver;
         let received = receiver.octet(octet);
@@ -51,9 +54,9 @@ impl Tool {
     }
 
     pub fn octet(self, octet: u8, frame: &mut [u8]) -> Heard
-        ensures { λ r. ⌜ Gives heard (afterOctet self octet (length (now (frame .entry)))) (now (frame .entry)) (now (frame .exit)) r ⌝ }
+        ensures { λ r. ⌜ Gives (afterOctet self octet (length (now (frame .entry)))) (now (frame .entry)) (now (frame .exit)) (answerOfHeard r) ⌝ }
     {
-        if frame.len() < 128 {
+        if frame.len() < LONGEST_FRAME {
             return self.hearing(Answer::Refused(Refusal::WrongLength));
         }
         if !self.sound() {
@@ -63,7 +66,7 @@ impl Tool {
     }
 
     pub fn gap(self) -> Answered
-        ensures { λ r. ⌜ r ≡ answered (afterGap self) ⌝ }
+        ensures { λ r. ⌜ answerOfAnswered r ≡ told (afterGap self) ⌝ }
     {
         if !self.sound() {
             return self.answering(Answer::Refused(Refusal::BrokenRule));
@@ -82,7 +85,7 @@ impl Tool {
     }
 
     pub fn session_end(self) -> Answered
-        ensures { λ r. ⌜ r ≡ answered (afterSessionEnd self) ⌝ }
+        ensures { λ r. ⌜ answerOfAnswered r ≡ told (afterSessionEnd self) ⌝ }
     {
         if !self.sound() {
             return self.answering(Answer::Refused(Refusal::BrokenRule));
@@ -95,7 +98,7 @@ impl Tool {
         if phase.idle() {
             return tool.answering(Answer::Nothing);
         }
-        let over = tool.in_phase(Phase::Idle);
+        let over = tool.ended();
         over.answering(Answer::Refused(Refusal::SessionEnded))
     }
 }

@@ -5,13 +5,22 @@ ghost use Prim.Native.Nat.{_≤_};
 ghost use lib.ListN.{length};
 ghost use Rattle.frame.specs.Layout.{layoutOf, within};
 ghost use Rattle.frame.specs.Building.{frameOctets, Sends};
+ghost use Rattle.frame.specs.Sizes.{longestFrame};
 ghost use Rattle.tool.specs.Requests.{fieldsTo};
 use frame::Built;
 use frame::Command;
 use frame::Fields;
+use frame::sizes::ADDRESS_WIDTH;
+use frame::sizes::NUMBER_WIDTH;
 use numbers::Octets;
 
-pub(crate) fn fields_to(ads: [u8; 6], adp: u8, tab: u8, za1: [u8; 8], za2: [u8; 8]) -> Fields
+pub(crate) fn fields_to(
+    ads: [u8; ADDRESS_WIDTH],
+    adp: u8,
+    tab: u8,
+    za1: [u8; NUMBER_WIDTH],
+    za2: [u8; NUMBER_WIDTH],
+) -> Fields
     ensures { λ r. ⌜ r ≡ fieldsTo ads adp tab za1 za2 ⌝ }
 {
     Fields {
@@ -20,13 +29,13 @@ pub(crate) fn fields_to(ads: [u8; 6], adp: u8, tab: u8, za1: [u8; 8], za2: [u8; 
         za1: za1,
         za2: za2,
         tab: tab,
-        announced: [0u8; 6],
+        announced: [0u8; ADDRESS_WIDTH],
     }
 }
 
 // A frame over the front of a buffer that holds it, and its length.
 pub(crate) fn send(frame: &mut [u8], command: Command, fields: Fields, data: &[u8]) -> Octets
-    requires { ⌜ (128 ≤ length (now frame)) × (within (layoutOf command) (length (now «data»)) ≡ true) ⌝ }
+    requires { ⌜ (longestFrame ≤ length (now frame)) × (within (layoutOf command) (length (now «data»)) ≡ true) ⌝ }
     ensures { λ r. ⌜ Sends (frameOctets command fields (now («data» .entry))) (now (frame .entry)) (now (frame .exit)) r ⌝ }
 {
     let built = frame::build(frame, command, fields, data);

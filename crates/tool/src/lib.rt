@@ -1,25 +1,43 @@
 // The primary station by value: one request at a time, the replies to it, and the wake-up memory (01, The tool).
 ghost use mathlib.Core.Path.{_≡_};
-ghost use Rattle.tool.specs.Numbers.{refusalNumber, numberOf};
+ghost use Rattle.numbers.specs.Answer.{numberOf};
+ghost use Rattle.tool.specs.Answers.{refusalNumber, answerOf};
 ghost use Rattle.tool.specs.Parts.{fresh};
 
 mod events;
 mod frames;
 mod parts;
+mod phases;
 mod replies;
 mod requests;
 mod soundness;
 
 use frame::Fault;
 use frame::checks::fault_number;
+use frame::sizes::ADDRESS_WIDTH;
+use frame::sizes::MOST_TRANSFERRED;
+use frame::sizes::NUMBER_WIDTH;
 use numbers::Octets;
+use numbers::table::BROKEN_RULE;
+use numbers::table::BUSY;
+use numbers::table::NONE;
+use numbers::table::REJECTED;
+use numbers::table::SESSION_ENDED;
+use numbers::table::TOO_LONG;
+use numbers::table::UNEXPECTED_FRAME;
+use numbers::table::WRONG_ADDRESS;
+use numbers::table::WRONG_CIPHER;
+use numbers::table::WRONG_ECHO;
+use numbers::table::WRONG_LENGTH;
 use receiver::Receiver;
+use wake::Last;
 use wake::Wake;
 use wake::WakeUps;
 
-// The request that runs, if any, and which reply it waits for: to ENQ for a TAB, to TRF, to REC with so many octets of DATA, or to AUT.
+// The mark of the request: none runs, and the last was such a one; or one runs, and waits for the reply to ENQ for a TAB, to TRF, to REC with so many
+// octets of DATA, or to AUT. The one that runs is the last.
 pub enum Phase {
-    Idle,
+    Idle { last: Last },
     Reading { tab: u8 },
     Transferring,
     Programming { tab: u8, length: Octets },
@@ -30,11 +48,11 @@ pub enum Phase {
 // What the phase does not use of them is free.
 pub struct Tool {
     pub phase: Phase,
-    pub ads: [u8; 6],
+    pub ads: [u8; ADDRESS_WIDTH],
     pub adp: u8,
-    pub key: [u8; 8],
-    pub na1: [u8; 8],
-    pub sent: [u8; 100],
+    pub key: [u8; NUMBER_WIDTH],
+    pub na1: [u8; NUMBER_WIDTH],
+    pub sent: [u8; MOST_TRANSFERRED],
     pub waking: WakeUps,
     pub receiver: Receiver,
 }
@@ -68,7 +86,7 @@ pub struct Answered {
     pub answer: Answer,
 }
 
-// The same for a request: how many octets of the lent buffer are its frame, none where it is refused, and which wake-up goes before it.
+// The same for a request: which wake-up goes before its frame, and how many octets of the lent buffer are its frame, none where it is refused.
 pub struct Requested {
     pub tool: Tool,
     pub answer: Answer,
@@ -78,7 +96,7 @@ pub struct Requested {
 
 // The DATA of a reading, with zeros after them.
 pub struct Contents {
-    pub octets: [u8; 116],
+    pub octets: [u8; MOST_TRANSFERRED],
     pub length: Octets,
 }
 
@@ -86,6 +104,7 @@ pub struct Contents {
 pub struct Heard {
     pub tool: Tool,
     pub answer: Answer,
+    pub wake: Wake,
     pub frame: Octets,
     pub contents: Contents,
 }
@@ -96,28 +115,28 @@ impl Refusal {
     {
         match self {
             Refusal::BadFrame(fault) => fault_number(fault),
-            Refusal::WrongAddress => 6,
-            Refusal::TooLong => 7,
-            Refusal::BrokenRule => 12,
-            Refusal::WrongCipher => 13,
-            Refusal::WrongEcho => 14,
-            Refusal::SessionEnded => 15,
-            Refusal::Busy => 16,
-            Refusal::WrongLength => 17,
-            Refusal::Unexpected => 19,
-            Refusal::Rejected => 20,
+            Refusal::WrongAddress => WRONG_ADDRESS,
+            Refusal::TooLong => TOO_LONG,
+            Refusal::BrokenRule => BROKEN_RULE,
+            Refusal::WrongCipher => WRONG_CIPHER,
+            Refusal::WrongEcho => WRONG_ECHO,
+            Refusal::SessionEnded => SESSION_ENDED,
+            Refusal::Busy => BUSY,
+            Refusal::WrongLength => WRONG_LENGTH,
+            Refusal::Unexpected => UNEXPECTED_FRAME,
+            Refusal::Rejected => REJECTED,
         }
     }
 }
 
 impl Answer {
     pub fn number(self) -> u8
-        ensures { λ r. ⌜ r ≡ numberOf self ⌝ }
+        ensures { λ r. ⌜ r ≡ numberOf (answerOf self) ⌝ }
     {
         match self {
-            Answer::Nothing => 0,
-            Answer::Sent => 0,
-            Answer::Done => 0,
+            Answer::Nothing => NONE,
+            Answer::Sent => NONE,
+            Answer::Done => NONE,
             Answer::Refused(refusal) => refusal.number(),
         }
     }
@@ -131,12 +150,12 @@ impl Tool {
         let waking = WakeUps::new();
         let receiver = Receiver::new();
         Tool {
-            phase: Phase::Idle,
-            ads: [0u8; 6],
+            phase: Phase::Idle { last: Last::Other },
+            ads: [0u8; ADDRESS_WIDTH],
             adp: 0,
-            key: [0u8; 8],
-            na1: [0u8; 8],
-            sent: [0u8; 100],
+            key: [0u8; NUMBER_WIDTH],
+            na1: [0u8; NUMBER_WIDTH],
+            sent: [0u8; MOST_TRANSFERRED],
             waking: waking,
             receiver: receiver,
         }

@@ -1,8 +1,8 @@
-// A tool with one of its parts another, and the answers of its calls.
+// A tool with one of its parts another, and the values that its calls hand back.
 ghost use mathlib.Core.Path.{_≡_};
 ghost use mathlib.Core.List.{[]};
-ghost use Rattle.tool.specs.declared.Answer.the-variants.{Refused};
-ghost use Rattle.tool.specs.Parts.{inPhase, withReceiver, withWaking, responding, over, endedWell, done, answered, requested, contentsOf, heard};
+ghost use Rattle.tool.specs.Answers.{refusalNumber, answerOf};
+ghost use Rattle.tool.specs.Parts.{inPhase, withReceiver, withWaking, ended, endedWell, responding, refusing, over, told, unsent, contentsOf, answerOfAnswered, answerOfRequested, answerOfHeard};
 use crate::Answer;
 use crate::Answered;
 use crate::Contents;
@@ -11,6 +11,7 @@ use crate::Phase;
 use crate::Refusal;
 use crate::Requested;
 use crate::Tool;
+use frame::sizes::MOST_TRANSFERRED;
 use numbers::Octets;
 use receiver::Receiver;
 use wake::Wake;
@@ -21,7 +22,7 @@ fn no_contents() -> Contents
     ensures { λ r. ⌜ r ≡ contentsOf [] ⌝ }
 {
     Contents {
-        octets: [0u8; 116],
+        octets: [0u8; MOST_TRANSFERRED],
         length: Octets(0),
     }
 }
@@ -64,18 +65,28 @@ impl Tool {
         next
     }
 
+    // The tool whose request has ended.
+    pub(crate) fn ended(self) -> Tool
+        ensures { λ r. ⌜ r ≡ ended self ⌝ }
+    {
+        let phase = self.phase;
+        let last = phase.last();
+        self.in_phase(Phase::Idle { last: last })
+    }
+
     // The tool whose request has ended without a number.
     pub(crate) fn ended_well(self) -> Tool
         ensures { λ r. ⌜ r ≡ endedWell self ⌝ }
     {
+        let phase = self.phase;
         let waking = self.waking;
-        let tool = self.in_phase(Phase::Idle);
-        tool.with_waking(waking.succeeded())
+        let tool = self.ended();
+        tool.with_waking(waking.succeeded(phase.last()))
     }
 
     // This tool beside the answer.
     pub(crate) fn answering(self, answer: Answer) -> Answered
-        ensures { λ r. ⌜ r ≡ answered (responding self answer) ⌝ }
+        ensures { λ r. ⌜ answerOfAnswered r ≡ told (responding self (answerOf answer)) ⌝ }
     {
         Answered {
             tool: self,
@@ -85,7 +96,7 @@ impl Tool {
 
     // The same for a request that is refused.
     pub(crate) fn refusing(self, refusal: Refusal) -> Requested
-        ensures { λ r. ⌜ r ≡ requested (responding self (Refused refusal)) ⌝ }
+        ensures { λ r. ⌜ answerOfRequested r ≡ told (refusing self (refusalNumber refusal)) ⌝ }
     {
         Requested {
             tool: self,
@@ -95,32 +106,31 @@ impl Tool {
         }
     }
 
-    // The same for an octet, with nothing to send and nothing read.
-    pub(crate) fn hearing(self, answer: Answer) -> Heard
-        ensures { λ r. ⌜ r ≡ heard (responding self answer) ⌝ }
+    // The same for an octet, with nothing to send, no wake-up and these contents.
+    pub(crate) fn telling(self, answer: Answer, contents: Contents) -> Heard
+        ensures { λ r. ⌜ answerOfHeard r ≡ unsent self (answerOf answer) contents ⌝ }
     {
-        let contents = no_contents();
         Heard {
             tool: self,
             answer: answer,
+            wake: Wake::None,
             frame: Octets(0),
             contents: contents,
         }
     }
 
-    // The request has ended with a number.
-    pub(crate) fn over(self, refusal: Refusal) -> Heard
-        ensures { λ r. ⌜ r ≡ heard (over self (Refused refusal)) ⌝ }
+    // The same with nothing read.
+    pub(crate) fn hearing(self, answer: Answer) -> Heard
+        ensures { λ r. ⌜ answerOfHeard r ≡ told (responding self (answerOf answer)) ⌝ }
     {
-        let tool = self.in_phase(Phase::Idle);
-        tool.hearing(Answer::Refused(refusal))
+        self.telling(answer, no_contents())
     }
 
-    // The request has ended without a number.
-    pub(crate) fn done(self) -> Heard
-        ensures { λ r. ⌜ r ≡ heard (done self) ⌝ }
+    // The request has ended with a number.
+    pub(crate) fn over(self, refusal: Refusal) -> Heard
+        ensures { λ r. ⌜ answerOfHeard r ≡ told (over self (refusalNumber refusal)) ⌝ }
     {
-        let tool = self.ended_well();
-        tool.hearing(Answer::Done)
+        let tool = self.ended();
+        tool.hearing(Answer::Refused(refusal))
     }
 }

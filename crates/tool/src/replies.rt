@@ -2,8 +2,11 @@
 ghost use mathlib.Core.Path.{_≡_};
 ghost use Prim.Native.Nat.{_≤_};
 ghost use lib.ListN.{length};
-ghost use Rattle.tool.specs.Parts.{read, heard, contentsOf, Gives};
-ghost use Rattle.tool.specs.Replies.{replyOf, onReading, onTransferring, authentication, authenticating, enciphers, echoes, onEcho, onProgramming, onAuthenticating, expected, onReply, onFrame};
+ghost use Rattle.frame.specs.Sizes.{mostProgrammed, mostTransferred, longestFrame};
+ghost use Rattle.numbers.specs.Answer.{given};
+ghost use Rattle.tool.specs.Answers.{done};
+ghost use Rattle.tool.specs.Parts.{endedWell, unsent, contentsOf, answerOfHeard, Gives};
+ghost use Rattle.tool.specs.Replies.{replyOf, turnOf, onReading, onTransferring, isEcho, onAuthenticating, enciphers, echoes, onEcho, turn, authentication, authenticating, performed, expected, onFrame};
 ghost use Rattle.tool.specs.Soundness.{sentLength};
 use crate::Answer;
 use crate::Contents;
@@ -15,6 +18,8 @@ use crate::frames::fields_to;
 use crate::frames::send;
 use frame::Command;
 use frame::Fields;
+use frame::sizes::MOST_TRANSFERRED;
+use frame::sizes::NUMBER_WIDTH;
 use numbers::Octets;
 
 // A good frame, as the requests tell replies apart.
@@ -26,6 +31,15 @@ pub(crate) enum Reply {
     Arj,
     Tra,
     Other,
+}
+
+// What a reply does: it is dropped; it ends a reading with its DATA; it ends the request without a number; it ends it with one; or AUT follows.
+pub(crate) enum Turn {
+    Drop,
+    Read,
+    End,
+    Fail(Refusal),
+    Authenticate,
 }
 
 fn reply_of(command: Command) -> Reply
@@ -51,12 +65,77 @@ fn reply_of(command: Command) -> Reply
     }
 }
 
+// A reply to ENQ, with the TAB asked for or another.
+fn on_reading(reply: Reply, asked: bool) -> Turn
+    ensures { λ r. ⌜ turnOf r ≡ onReading reply asked ⌝ }
+{
+    match reply {
+        Reply::Dat => {
+            if asked {
+                Turn::Read
+            } else {
+                Turn::Fail(Refusal::WrongEcho)
+            }
+        }
+        Reply::Ech => Turn::Fail(Refusal::Unexpected),
+        Reply::Eos => Turn::Fail(Refusal::Unexpected),
+        Reply::Drj => Turn::Fail(Refusal::Rejected),
+        Reply::Arj => Turn::Fail(Refusal::Unexpected),
+        Reply::Tra => Turn::Fail(Refusal::Unexpected),
+        Reply::Other => Turn::Fail(Refusal::Unexpected),
+    }
+}
+
+// A reply to TRF.
+fn on_transferring(reply: Reply) -> Turn
+    ensures { λ r. ⌜ turnOf r ≡ onTransferring reply ⌝ }
+{
+    match reply {
+        Reply::Dat => Turn::Fail(Refusal::Unexpected),
+        Reply::Ech => Turn::Fail(Refusal::Unexpected),
+        Reply::Eos => Turn::Fail(Refusal::Unexpected),
+        Reply::Drj => Turn::Fail(Refusal::Rejected),
+        Reply::Arj => Turn::Fail(Refusal::Unexpected),
+        Reply::Tra => Turn::End,
+        Reply::Other => Turn::Fail(Refusal::Unexpected),
+    }
+}
+
+fn is_echo(reply: Reply) -> bool
+    ensures { λ r. ⌜ r ≡ isEcho reply ⌝ }
+{
+    match reply {
+        Reply::Dat => false,
+        Reply::Ech => true,
+        Reply::Eos => false,
+        Reply::Drj => false,
+        Reply::Arj => false,
+        Reply::Tra => false,
+        Reply::Other => false,
+    }
+}
+
+// A reply to AUT.
+fn on_authenticating(reply: Reply) -> Turn
+    ensures { λ r. ⌜ turnOf r ≡ onAuthenticating reply ⌝ }
+{
+    match reply {
+        Reply::Dat => Turn::Fail(Refusal::Unexpected),
+        Reply::Ech => Turn::Fail(Refusal::Unexpected),
+        Reply::Eos => Turn::End,
+        Reply::Drj => Turn::Fail(Refusal::Rejected),
+        Reply::Arj => Turn::Fail(Refusal::WrongCipher),
+        Reply::Tra => Turn::Fail(Refusal::Unexpected),
+        Reply::Other => Turn::Fail(Refusal::Unexpected),
+    }
+}
+
 // The contents of a reading.
 fn contents_of(data: &[u8]) -> Contents
-    requires { ⌜ length (now «data») ≤ 116 ⌝ }
+    requires { ⌜ length (now «data») ≤ mostTransferred ⌝ }
     ensures { λ r. ⌜ r ≡ contentsOf (now («data» .entry)) ⌝ }
 {
-    let mut octets = [0u8; 116];
+    let mut octets = [0u8; MOST_TRANSFERRED];
     octets::put(&mut octets, 0, data);
     Contents {
         octets: octets,
@@ -65,60 +144,8 @@ fn contents_of(data: &[u8]) -> Contents
 }
 
 impl Tool {
-    // DAT with the TAB asked for.
-    fn read_out(self, data: &[u8]) -> Heard
-        requires { ⌜ length (now «data») ≤ 116 ⌝ }
-        ensures { λ r. ⌜ r ≡ heard (read (now («data» .entry)) self) ⌝ }
-    {
-        let tool = self.ended_well();
-        let contents = contents_of(data);
-        Heard {
-            tool: tool,
-            answer: Answer::Done,
-            frame: Octets(0),
-            contents: contents,
-        }
-    }
-
-    // A reply to ENQ.
-    fn on_reading(self, reply: Reply, tab: u8, fields: Fields, data: &[u8]) -> Heard
-        requires { ⌜ length (now «data») ≤ 116 ⌝ }
-        ensures { λ r. ⌜ r ≡ heard (onReading reply tab fields (now («data» .entry)) self) ⌝ }
-    {
-        match reply {
-            Reply::Dat => {
-                if fields.tab == tab {
-                    self.read_out(data)
-                } else {
-                    self.over(Refusal::WrongEcho)
-                }
-            }
-            Reply::Drj => self.over(Refusal::Rejected),
-            Reply::Ech => self.over(Refusal::Unexpected),
-            Reply::Eos => self.over(Refusal::Unexpected),
-            Reply::Arj => self.over(Refusal::Unexpected),
-            Reply::Tra => self.over(Refusal::Unexpected),
-            Reply::Other => self.over(Refusal::Unexpected),
-        }
-    }
-
-    // A reply to TRF.
-    fn on_transferring(self, reply: Reply) -> Heard
-        ensures { λ r. ⌜ r ≡ heard (onTransferring reply self) ⌝ }
-    {
-        match reply {
-            Reply::Tra => self.done(),
-            Reply::Drj => self.over(Refusal::Rejected),
-            Reply::Dat => self.over(Refusal::Unexpected),
-            Reply::Ech => self.over(Refusal::Unexpected),
-            Reply::Eos => self.over(Refusal::Unexpected),
-            Reply::Arj => self.over(Refusal::Unexpected),
-            Reply::Other => self.over(Refusal::Unexpected),
-        }
-    }
-
     // Whether ECH's ZA1 is NA1 enciphered.
-    fn enciphers(self, za1: [u8; 8]) -> bool
+    fn enciphers(self, za1: [u8; NUMBER_WIDTH]) -> bool
         ensures { λ r. ⌜ r ≡ enciphers self za1 ⌝ }
     {
         let key = self.key;
@@ -129,7 +156,7 @@ impl Tool {
 
     // Whether ECH's TAB and DATA are those sent.
     fn echoes(self, tab: u8, count: Octets, fields: Fields, data: &[u8]) -> bool
-        requires { ⌜ count .0 ≤ 100 ⌝ }
+        requires { ⌜ count .0 ≤ mostProgrammed ⌝ }
         ensures { λ r. ⌜ r ≡ echoes self tab (count .0) fields (now («data» .entry)) ⌝ }
     {
         if fields.tab != tab {
@@ -140,20 +167,64 @@ impl Tool {
         octets::equal(data, &sent[..end])
     }
 
+    // ECH: its ZA1 (13), then its TAB and DATA (14), only then AUT.
+    fn on_echo(self, tab: u8, count: Octets, fields: Fields, data: &[u8]) -> Turn
+        requires { ⌜ count .0 ≤ mostProgrammed ⌝ }
+        ensures { λ r. ⌜ turnOf r ≡ onEcho self tab (count .0) fields (now («data» .entry)) ⌝ }
+    {
+        let za1 = fields.za1;
+        if !self.enciphers(za1) {
+            return Turn::Fail(Refusal::WrongCipher);
+        }
+        if !self.echoes(tab, count, fields, data) {
+            return Turn::Fail(Refusal::WrongEcho);
+        }
+        Turn::Authenticate
+    }
+
+    // What a frame from the station of the request, for its ADP, does.
+    fn turn_on(self, reply: Reply, fields: Fields, data: &[u8]) -> Turn
+        requires { ⌜ sentLength (self .phase) ≤ mostProgrammed ⌝ }
+        ensures { λ r. ⌜ turnOf r ≡ turn (self .phase) self reply fields (now («data» .entry)) ⌝ }
+    {
+        let phase = self.phase;
+        match phase {
+            Phase::Idle { last: _ } => Turn::Drop,
+            Phase::Reading { tab } => on_reading(reply, fields.tab == tab),
+            Phase::Transferring => on_transferring(reply),
+            Phase::Programming { tab, length } => {
+                if is_echo(reply) {
+                    self.on_echo(tab, length, fields, data)
+                } else {
+                    Turn::Fail(Refusal::Unexpected)
+                }
+            }
+            Phase::Authenticating => on_authenticating(reply),
+        }
+    }
+
+    // The request has ended without a number, with these contents.
+    fn finished(self, contents: Contents) -> Heard
+        ensures { λ r. ⌜ answerOfHeard r ≡ unsent (endedWell self) (given done) contents ⌝ }
+    {
+        let tool = self.ended_well();
+        tool.telling(Answer::Done, contents)
+    }
+
     // AUT's fields, with NA2 enciphered.
-    fn authentication(self, za2: [u8; 8]) -> Fields
+    fn authentication(self, za2: [u8; NUMBER_WIDTH]) -> Fields
         ensures { λ r. ⌜ r ≡ authentication self za2 ⌝ }
     {
         let key = self.key;
         let ads = self.ads;
         let na2k = des::encipher(key, za2);
-        fields_to(ads, self.adp, 0, [0u8; 8], na2k)
+        fields_to(ads, self.adp, 0, [0u8; NUMBER_WIDTH], na2k)
     }
 
     // AUT is sent.
-    fn authenticating(self, za2: [u8; 8], frame: &mut [u8]) -> Heard
-        requires { ⌜ 128 ≤ length (now frame) ⌝ }
-        ensures { λ r. ⌜ Gives heard (authenticating za2 self) (now (frame .entry)) (now (frame .exit)) r ⌝ }
+    fn authenticating(self, za2: [u8; NUMBER_WIDTH], frame: &mut [u8]) -> Heard
+        requires { ⌜ longestFrame ≤ length (now frame) ⌝ }
+        ensures { λ r. ⌜ Gives (authenticating za2 self) (now (frame .entry)) (now (frame .exit)) (answerOfHeard r) ⌝ }
     {
         let fields = self.authentication(za2);
         let tool = self.in_phase(Phase::Authenticating);
@@ -163,58 +234,20 @@ impl Tool {
         next
     }
 
-    // ECH: its ZA1 (13), then its TAB and DATA (14), only then AUT.
-    fn on_echo(self, tab: u8, count: Octets, fields: Fields, data: &[u8], frame: &mut [u8]) -> Heard
-        requires { ⌜ (count .0 ≤ 100) × (128 ≤ length (now frame)) ⌝ }
-        ensures { λ r. ⌜ Gives heard (onEcho tab (count .0) fields (now («data» .entry)) self) (now (frame .entry)) (now (frame .exit)) r ⌝ }
+    // What a turn of the request comes to.
+    fn perform(self, turn: Turn, fields: Fields, data: &[u8], frame: &mut [u8]) -> Heard
+        requires { ⌜ (length (now «data») ≤ mostTransferred) × (longestFrame ≤ length (now frame)) ⌝ }
+        ensures { λ r. ⌜ Gives (performed (turnOf turn) fields (now («data» .entry)) self) (now (frame .entry)) (now (frame .exit)) (answerOfHeard r) ⌝ }
     {
-        let za1 = fields.za1;
-        if !self.enciphers(za1) {
-            return self.over(Refusal::WrongCipher);
-        }
-        if !self.echoes(tab, count, fields, data) {
-            return self.over(Refusal::WrongEcho);
-        }
-        let za2 = fields.za2;
-        self.authenticating(za2, frame)
-    }
-
-    // A reply to REC.
-    fn on_programming(
-        self,
-        reply: Reply,
-        tab: u8,
-        count: Octets,
-        fields: Fields,
-        data: &[u8],
-        frame: &mut [u8],
-    ) -> Heard
-        requires { ⌜ (count .0 ≤ 100) × (128 ≤ length (now frame)) ⌝ }
-        ensures { λ r. ⌜ Gives heard (onProgramming reply tab (count .0) fields (now («data» .entry)) self) (now (frame .entry)) (now (frame .exit)) r ⌝ }
-    {
-        match reply {
-            Reply::Ech => self.on_echo(tab, count, fields, data, frame),
-            Reply::Dat => self.over(Refusal::Unexpected),
-            Reply::Eos => self.over(Refusal::Unexpected),
-            Reply::Drj => self.over(Refusal::Unexpected),
-            Reply::Arj => self.over(Refusal::Unexpected),
-            Reply::Tra => self.over(Refusal::Unexpected),
-            Reply::Other => self.over(Refusal::Unexpected),
-        }
-    }
-
-    // A reply to AUT.
-    fn on_authenticating(self, reply: Reply) -> Heard
-        ensures { λ r. ⌜ r ≡ heard (onAuthenticating reply self) ⌝ }
-    {
-        match reply {
-            Reply::Eos => self.done(),
-            Reply::Arj => self.over(Refusal::WrongCipher),
-            Reply::Drj => self.over(Refusal::Rejected),
-            Reply::Dat => self.over(Refusal::Unexpected),
-            Reply::Ech => self.over(Refusal::Unexpected),
-            Reply::Tra => self.over(Refusal::Unexpected),
-            Reply::Other => self.over(Refusal::Unexpected),
+        match turn {
+            Turn::Drop => self.hearing(Answer::Nothing),
+            Turn::Read => self.finished(contents_of(data)),
+            Turn::End => self.finished(contents_of(&[])),
+            Turn::Fail(refusal) => self.over(refusal),
+            Turn::Authenticate => {
+                let za2 = fields.za2;
+                self.authenticating(za2, frame)
+            }
         }
     }
 
@@ -230,28 +263,6 @@ impl Tool {
         fields.adp == self.adp
     }
 
-    // A frame from the station of the request, for its ADP.
-    fn on_reply(self, reply: Reply, fields: Fields, data: &[u8], frame: &mut [u8]) -> Heard
-        requires { ⌜ (sentLength (self .phase) ≤ 100) × ((length (now «data») ≤ 116) × (128 ≤ length (now frame))) ⌝ }
-        ensures { λ r. ⌜ Gives heard (onReply (self .phase) reply fields (now («data» .entry)) self) (now (frame .entry)) (now (frame .exit)) r ⌝ }
-    {
-        let phase = self.phase;
-        match phase {
-            Phase::Idle => self.hearing(Answer::Nothing),
-            Phase::Reading { tab } => self.on_reading(reply, tab, fields, data),
-            Phase::Transferring => self.on_transferring(reply),
-            Phase::Programming { tab, length } => self.on_programming(
-                reply,
-                tab,
-                length,
-                fields,
-                data,
-                frame,
-            ),
-            Phase::Authenticating => self.on_authenticating(reply),
-        }
-    }
-
     // A whole good frame.
     pub(crate) fn on_frame(
         self,
@@ -260,12 +271,13 @@ impl Tool {
         data: &[u8],
         frame: &mut [u8],
     ) -> Heard
-        requires { ⌜ (sentLength (self .phase) ≤ 100) × ((length (now «data») ≤ 116) × (128 ≤ length (now frame))) ⌝ }
-        ensures { λ r. ⌜ Gives heard (onFrame self command fields (now («data» .entry))) (now (frame .entry)) (now (frame .exit)) r ⌝ }
+        requires { ⌜ (sentLength (self .phase) ≤ mostProgrammed) × ((length (now «data») ≤ mostTransferred) × (longestFrame ≤ length (now frame))) ⌝ }
+        ensures { λ r. ⌜ Gives (onFrame self command fields (now («data» .entry))) (now (frame .entry)) (now (frame .exit)) (answerOfHeard r) ⌝ }
     {
         if !self.expected(fields) {
             return self.hearing(Answer::Nothing);
         }
-        self.on_reply(reply_of(command), fields, data, frame)
+        let turn = self.turn_on(reply_of(command), fields, data);
+        self.perform(turn, fields, data, frame)
     }
 }

@@ -4,156 +4,123 @@ use mathlib.Core.Path.{_≡_, refl, sym, ap, _∙_}
 use mathlib.Core.Bool.{true, false}
 use mathlib.Core.List.{List, []}
 use native.Mathlib.Omega.{arith}
+use lib.Dec.{eqb}
 use lib.ListN.{length, getD}
+use borrow.Author.Tests.{eqb-false}
 use Rattle.octets.specs.Splice.{fronted}
 use Rattle.octets.proofs.Impossible.{impossible}
 use Rattle.octets.proofs.Parts.{getD-part}
-use Rattle.frame.specs.declared.checks.Fault.{Fault}
-use Rattle.frame.specs.declared.checks.Fault.the-variants.{OutOfRange, Crc, Cut, Unknown, Length}
+use Rattle.numbers.specs.Answer.{given, refused}
+use Rattle.numbers.specs.Table.{none}
 use Rattle.receiver_memory.specs.Receiver as receiver-memory
 use Rattle.tool.specs.declared.Tool.{Tool}
-use Rattle.tool.specs.declared.Refusal.{Refusal}
-use Rattle.tool.specs.declared.Refusal.the-variants.{BadFrame, WrongAddress, TooLong, BrokenRule, WrongCipher, WrongEcho, SessionEnded, Busy, WrongLength, Unexpected, Rejected}
-use Rattle.tool.specs.declared.Phase.the-variants.{Idle}
-use Rattle.tool.specs.declared.Answer.the-variants.{Nothing, Refused}
-use Rattle.tool.specs.Numbers.{refusalNumber}
-use Rattle.tool.specs.Parts.{inPhase, withReceiver, Response, responding}
+use Rattle.tool.specs.Parts.{Response}
 use Rattle.tool.specs.Soundness.{sound}
-use Rattle.tool.specs.Events.{Call, after}
-use Rattle.tool.specs.Leaving.{endsRequest, leftBy}
+use Rattle.tool.specs.Requests.{Asking}
+use Rattle.tool.specs.Events.{Call, Ask, Octet, after}
+use Rattle.tool.specs.Leaving.{Effect, KeepsAll, ReceiverOnly, Over, effectOf, leftAs, unmade}
+use Rattle.tool.proofs.Effects.{receiver-only, over-made}
 use Rattle.tool.proofs.Sound.{test-sound}
-use Rattle.tool.proofs.Numbers.{by-number}
-use Rattle.tool.proofs.Refusals.{refusal-leaves}
-use Rattle.tool_memory.specs.Layout.{decoded, encoded}
+use Rattle.tool.proofs.Refusals.{refusal-leaves, Plain, numbered, unnumbered, plain}
+use Rattle.tool_memory.specs.Layout.{lengthAt, receiverAt, receiverCountAt, size}
+use Rattle.tool_memory.specs.Decoding.{decoded}
+use Rattle.tool_memory.specs.Encoding.{encoded}
 use Rattle.tool_memory.proofs.Memory.{decoded-shaped}
 use Rattle.tool_memory.proofs.Refusing.{receiver-alters, ending-alters}
 use Rattle.tool_memory.proofs.Storable.{Storable, after-storable}
-use Rattle.tool_exports.specs.Outcomes.{stored, RequestLent, OctetLent, requestShown, octetShown, requestOutcome, octetOutcome}
+use Rattle.tool_exports.specs.Outcomes.{stored, RequestLoan, OctetLoan, requestShown, octetShown, requestOutcome, octetOutcome}
 use Rattle.tool_exports.specs.Lists.{left}
-use Rattle.tool_exports.specs.Leaving.{OutsideReceiver, StaysAt}
+use Rattle.tool_exports.specs.Leaving.{StaysAt}
 use Rattle.tool_exports.proofs.Given.{shown-not, over-not}
-use Rattle.tool_exports.proofs.Unchanged.{leavesAll, refused-sound, sound-used, left-unchanged}
-
--- 12 and 17 aside, a refusal stores the tool that it gives back
-fault-stored : (f : Fault) (u : Tool) (m : List ℕ) → stored (refusalNumber (BadFrame f)) u m ≡ encoded u m
-unfolding stored
-fault-stored OutOfRange u m = refl
-fault-stored Crc u m = refl
-fault-stored Cut u m = refl
-fault-stored Unknown u m = refl
-fault-stored Length u m = refl
-
--- no refusal has the number 0
-nonzero : (x : Refusal) → refusalNumber x ≡ 0 → ⊥
-nonzero x e =
-    let q : Nothing ≡ Refused x = by-number Nothing x (sym e) in
-    impossible (cc)
+use Rattle.tool_exports.proofs.Unchanged.{refused-sound, sound-used, tool-left, memory-stored, left-unchanged}
 
 -- a memory that is octets
-module _ (m : List ℕ) (size : length m ≡ 263) (few : getD m 2 0 < 256) (narrow : getD m 135 0 < 256) (call : Call) where
+module _ (m : List ℕ) (sized : length m ≡ size) (few : getD m lengthAt 0 < 256) (narrow : getD m receiverCountAt 0 < 256) (x : Call) (n : ℕ) (e : after (decoded m) x .answer ≡ refused n) where
   abbrev next : Tool
-  next = after (decoded m) call .tool
+  next = after (decoded m) x .tool
 
   count-narrow : decoded m .receiver .count .0 < 256
   unfolding decoded receiver-memory.decoded
-  count-narrow = rw (getD-part m 134 263 1 (omega arith) (omega arith)) narrow
+  count-narrow = rw (getD-part m receiverAt size receiver-memory.countAt (omega arith) (omega arith)) narrow
 
   held : sound (decoded m) ≡ true → Storable (decoded m)
   held s =
       record {
-        whole = record { sound = test-sound (decoded m) s; long = decoded-shaped m size .octets };
-        shaped = decoded-shaped m size;
+        whole = record { sound = test-sound (decoded m) s; long = decoded-shaped m sized .octets };
+        shaped = decoded-shaped m sized;
         narrow = count-narrow;
       }
 
-  long : sound (decoded m) ≡ true → length (next .receiver .octets) ≡ 127
-  long s = after-storable (decoded m) call (held s) .shaped .octets
+  long : sound (decoded m) ≡ true → length (next .receiver .octets) ≡ receiver-memory.mostHeld
+  long s = after-storable (decoded m) x (held s) .shaped .octets
 
-  left-by : (x : Refusal) → after (decoded m) call .answer ≡ Refused x → next ≡ leftBy x (decoded m) (next .receiver)
-  left-by x e = ap (λ (r : Response). r .tool) (refusal-leaves (decoded m) call x e)
+  -- 12 and 17 aside, a refusal stores the tool that it gives back
+  tool-stored : unmade n ≡ false → left m x ≡ encoded (leftAs (effectOf n) (decoded m) (next .receiver)) m
+  unfolding stored
+  tool-stored u = memory-stored m sized few narrow x n e ∙ rw u (ap (λ (t : Tool). encoded t m) (tool-left m sized few narrow x n e))
 
-  -- a bad frame
-  dropped : (f : Fault) → after (decoded m) call .answer ≡ Refused (BadFrame f) → left m call ≡ encoded (withReceiver (next .receiver) (decoded m)) m
-  unfolding left leftBy
-  dropped f e = rw e (fault-stored f next m ∙ ap (λ (u : Tool). encoded u m) (left-by (BadFrame f) e))
-
-  fault-left : (f : Fault) → after (decoded m) call .answer ≡ Refused (BadFrame f) → (j : ℕ) → StaysAt (BadFrame f) j → getD (left m call) j 0 ≡ getD m j 0
-  fault-left f e j k =
-      let s = refused-sound m call (BadFrame f) e (λ q. impossible (cc)) (λ q. impossible (cc)) in
-      rw (dropped f e) (receiver-alters m size (sound-used m s) few narrow (next .receiver) (long s) j k)
-
-  -- 13, 14, 15, 19 and 20: the request is over
-  ended-left : (x : Refusal) → endsRequest x ≡ true → after (decoded m) call .answer ≡ Refused x → left m call ≡ encoded (inPhase Idle (withReceiver (next .receiver) (decoded m))) m
-  unfolding left stored leftBy
-  ended-left (BadFrame f) p e = impossible (cc)
-  ended-left WrongAddress p e = impossible (cc)
-  ended-left TooLong p e = impossible (cc)
-  ended-left BrokenRule p e = impossible (cc)
-  ended-left WrongCipher p e = rw e (ap (λ (u : Tool). encoded u m) (left-by WrongCipher e))
-  ended-left WrongEcho p e = rw e (ap (λ (u : Tool). encoded u m) (left-by WrongEcho e))
-  ended-left SessionEnded p e = rw e (ap (λ (u : Tool). encoded u m) (left-by SessionEnded e))
-  ended-left Busy p e = impossible (cc)
-  ended-left WrongLength p e = impossible (cc)
-  ended-left Unexpected p e = rw e (ap (λ (u : Tool). encoded u m) (left-by Unexpected e))
-  ended-left Rejected p e = rw e (ap (λ (u : Tool). encoded u m) (left-by Rejected e))
-
-  ending-octet : (x : Refusal) → endsRequest x ≡ true → after (decoded m) call .answer ≡ Refused x → (j : ℕ) → (0 < j) × OutsideReceiver j → getD (left m call) j 0 ≡ getD m j 0
-  ending-octet x p e j k =
-      let s = refused-sound m call x e (λ q. let z : false ≡ true = rw q at p in impossible (cc)) (λ q. let z : false ≡ true = rw q at p in impossible (cc)) in
-      rw (ended-left x p e) (ending-alters m size (sound-used m s) few narrow (next .receiver) (long s) j (k .0) (k .1))
-
-  kept-octet : (x : Refusal) → leavesAll x ≡ true → after (decoded m) call .answer ≡ Refused x → (j : ℕ) → getD (left m call) j 0 ≡ getD m j 0
-  kept-octet x p e j = ap (λ (l : List ℕ). getD l j 0) (left-unchanged m size few narrow call x p e)
+  octet-left : (f : Effect) → effectOf n ≡ f → (j : ℕ) → StaysAt f j → getD (left m x) j 0 ≡ getD m j 0
+  unfolding leftAs
+  octet-left KeepsAll f j k = ap (λ (l : List ℕ). getD l j 0) (left-unchanged m sized few narrow x n e f)
+  octet-left ReceiverOnly f j k =
+      let u = receiver-only n f .made in
+      let s = refused-sound m x n e u in
+      rw (tool-stored u, f) (receiver-alters m sized (next .receiver) (long s) (sound-used m s) few narrow j k)
+  octet-left Over f j k =
+      let u = over-made n f in
+      rw (tool-stored u, f) (ending-alters m sized (next .receiver) (long (refused-sound m x n e u)) j (k .0) (k .1))
 
   -- "may still change the receiver and the mark of the wait or request, as the rules above say, and nothing else": of every refusal of every call
-  pub refusal-left : (x : Refusal) → after (decoded m) call .answer ≡ Refused x → (j : ℕ) → StaysAt x j → getD (left m call) j 0 ≡ getD m j 0
-  refusal-left (BadFrame f) e j k = fault-left f e j k
-  refusal-left WrongAddress e j k = kept-octet WrongAddress refl e j
-  refusal-left TooLong e j k = kept-octet TooLong refl e j
-  refusal-left BrokenRule e j k = kept-octet BrokenRule refl e j
-  refusal-left WrongCipher e j k = ending-octet WrongCipher refl e j k
-  refusal-left WrongEcho e j k = ending-octet WrongEcho refl e j k
-  refusal-left SessionEnded e j k = ending-octet SessionEnded refl e j k
-  refusal-left Busy e j k = kept-octet Busy refl e j
-  refusal-left WrongLength e j k = kept-octet WrongLength refl e j
-  refusal-left Unexpected e j k = ending-octet Unexpected refl e j k
-  refusal-left Rejected e j k = ending-octet Rejected refl e j k
+  pub refusal-left : (j : ℕ) → StaysAt (effectOf n) j → getD (left m x) j 0 ≡ getD m j 0
+  refusal-left j k = octet-left (effectOf n) refl j k
 
--- a refusal sends nothing, hands nothing out and has no wake-up
-module _ (t : Tool) (call : Call) (x : Refusal) (e : after t call .answer ≡ Refused x) where
-  bare : after t call ≡ responding (leftBy x t (after t call .tool .receiver)) (Refused x)
-  bare = refusal-leaves t call x e
+-- a refusal has a number, sends nothing, hands nothing out and has no wake-up
+module _ (t : Tool) (x : Call) (n : ℕ) (e : after t x .answer ≡ refused n) where
+  pub some : n ≡ none → ⊥
+  some z = go (plain t x)
+    where
+      go : Plain (after t x .answer) → ⊥
+      go (numbered m p k) =
+          let q : refused m ≡ refused n = sym p ∙ e in
+          let same : m ≡ none = cc in
+          let f : true ≡ false = rw same at k in
+          impossible (cc)
+      go (unnumbered p g) =
+          let q : given p ≡ refused n = sym g ∙ e in
+          impossible (cc)
 
-  no-frame : after t call .frame ≡ []
-  no-frame = ap (λ (r : Response). r .frame) bare
+  pub no-frame : after t x .frame ≡ []
+  no-frame = ap (λ (r : Response). r .frame) (refusal-leaves t x n e)
 
-  no-contents : after t call .contents ≡ []
-  no-contents = ap (λ (r : Response). r .contents) bare
+  pub no-contents : after t x .contents ≡ []
+  no-contents = ap (λ (r : Response). r .contents) (refusal-leaves t x n e)
 
 -- a refused request leaves the frame buffer and every cell
-pub refused-request-leaves : (call : ℕ → Call) (lent : RequestLent) (x : Refusal) → after (decoded (lent .memory)) (call (length (lent .frame))) .answer ≡ Refused x
-    → requestOutcome call lent ≡ record { number = refusalNumber x; memory = left (lent .memory) (call (length (lent .frame))); frame = lent .frame; length = lent .length; wake = lent .wake; ended = lent .ended }
+pub refused-request-leaves : (q : Asking) (m : List ℕ) (lent : RequestLoan) (n : ℕ) → after (decoded m) (Ask q (length (lent .frame))) .answer ≡ refused n
+    → requestOutcome q m lent ≡ record { number = n; memory = left m (Ask q (length (lent .frame))); loan = lent }
 unfolding requestOutcome requestShown left fronted
-refused-request-leaves call lent x e =
+refused-request-leaves q m lent n e =
+    let z = some (decoded m) (Ask q (length (lent .frame))) n e in
     rw (
       e,
-      no-frame (decoded (lent .memory)) (call (length (lent .frame))) x e,
-      ← shown-not (refusalNumber x) 0 (lent .length) (nonzero x),
-      ← shown-not (refusalNumber x) _ (lent .wake) (nonzero x),
-      ← shown-not (refusalNumber x) _ (lent .ended) (nonzero x),
+      no-frame (decoded m) (Ask q (length (lent .frame))) n e,
+      ← shown-not n 0 (lent .length) z,
+      ← shown-not n _ (lent .wake) z,
+      ← shown-not n _ (lent .ended) z,
     )
 
 -- a refused octet leaves the frame buffer, the octets lent for DATA and every cell
-pub refused-octet-leaves : (call : ℕ → Call) (lent : OctetLent) (x : Refusal) → after (decoded (lent .memory)) (call (length (lent .frame))) .answer ≡ Refused x
-    → octetOutcome call lent ≡ record { number = refusalNumber x; memory = left (lent .memory) (call (length (lent .frame))); frame = lent .frame; length = lent .length; ended = lent .ended; content = lent .content; count = lent .count }
+pub refused-octet-leaves : (o : ℕ) (m : List ℕ) (lent : OctetLoan) (n : ℕ) → after (decoded m) (Octet o (length (lent .frame))) .answer ≡ refused n
+    → octetOutcome o m lent ≡ record { number = n; memory = left m (Octet o (length (lent .frame))); loan = lent }
 unfolding octetOutcome octetShown left fronted
-refused-octet-leaves call lent x e =
+refused-octet-leaves o m lent n e =
+    let z = some (decoded m) (Octet o (length (lent .frame))) n e in
     rw (
       e,
-      no-frame (decoded (lent .memory)) (call (length (lent .frame))) x e,
-      no-contents (decoded (lent .memory)) (call (length (lent .frame))) x e,
-      ← shown-not (refusalNumber x) 0 (lent .length) (nonzero x),
-      ← shown-not (refusalNumber x) 0 (lent .ended) (nonzero x),
-      ← over-not (refusalNumber x) [] (lent .content) (nonzero x),
-      ← shown-not (refusalNumber x) 0 (lent .count) (nonzero x),
+      no-frame (decoded m) (Octet o (length (lent .frame))) n e,
+      no-contents (decoded m) (Octet o (length (lent .frame))) n e,
+      ← shown-not n 0 (lent .length) z,
+      ← shown-not n 0 (lent .ended) z,
+      ← over-not n [] (lent .content) z,
+      ← shown-not n 0 (lent .count) z,
     )

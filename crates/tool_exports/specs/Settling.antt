@@ -1,26 +1,25 @@
--- For the two private functions `settle` alone: what each leaves besides the frame, part by part, for the value q that the tool gave. No promise of an exported call uses these.
+-- For the private functions `settle` alone: what each leaves besides the frame, part by part, for what the tool told. No promise of an exported call uses these.
 use Prim.Native.Nat.{ℕ}
 use mathlib.Core.Path.{_≡_}
 use mathlib.Core.List.{List}
 use Rattle.octets.specs.Part.{partOf}
-use Rattle.tool.specs.declared.Requested.{Requested}
-use Rattle.tool.specs.declared.Heard.{Heard}
-use Rattle.tool.specs.Numbers.{numberOf}
-use Rattle.tool_exports.specs.Outcomes.{stored, shown, shownOver, wakeMark, endedMark}
+use Rattle.numbers.specs.Answer.{numberOf}
+use Rattle.tool.specs.Parts.{Told}
+use Rattle.tool_exports.specs.Outcomes.{stored, shown, shownOver, wakeMark, doneMark}
 
 -- a request
-pub record Settled (q : Requested) (number : ℕ) (m m′ : List ℕ) (l l′ w w′ e e′ : ℕ) : Type 0 where
+pub record Settled (q : Told) (number : ℕ) (m m′ : List ℕ) (l l′ w w′ e e′ : ℕ) : Type 0 where
   pub answered : number ≡ numberOf (q .answer)
   pub memory : m′ ≡ stored number (q .tool) m
   pub length : l′ ≡ shown number (q .frame .0) l
   pub wake : w′ ≡ shown number (wakeMark (q .wake)) w
-  pub ended : e′ ≡ shown number (endedMark (q .answer)) e
+  pub ended : e′ ≡ shown number (doneMark (q .answer)) e
 
 -- an octet
-pub record SettledOctet (q : Heard) (number : ℕ) (m m′ : List ℕ) (l l′ e e′ : ℕ) (d d′ : List ℕ) (k k′ : ℕ) : Type 0 where
+pub record SettledOctet (q : Told) (number : ℕ) (m m′ : List ℕ) (l l′ e e′ : ℕ) (d d′ : List ℕ) (k k′ : ℕ) : Type 0 where
   pub answered : number ≡ numberOf (q .answer)
   pub memory : m′ ≡ stored number (q .tool) m
   pub length : l′ ≡ shown number (q .frame .0) l
-  pub ended : e′ ≡ shown number (endedMark (q .answer)) e
+  pub ended : e′ ≡ shown number (doneMark (q .answer)) e
   pub content : d′ ≡ shownOver number (partOf (q .contents .octets) 0 (q .contents .length .0)) d
   pub count : k′ ≡ shown number (q .contents .length .0) k

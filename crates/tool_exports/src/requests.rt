@@ -1,42 +1,45 @@
 // The five requests. Each tests 17, 12, 16, 6, 7 in this order; a refusal changes nothing.
 ghost use mathlib.Core.Path.{_≡_};
-ghost use Rattle.tool.specs.Events.{Read, Transfer, Program, Broadcast, Initialise};
+ghost use Rattle.tool.specs.Parts.{answerOfRequested};
+ghost use Rattle.tool.specs.Requests.{reading, transferring, programming, broadcasting, initialising};
 ghost use Rattle.tool_exports.specs.Outcomes.{requestOutcome};
 ghost use Rattle.tool_exports.specs.Settling.{Settled};
-use crate::settling::ended_mark;
+use crate::settling::done_mark;
 use crate::settling::store;
 use crate::settling::wake_mark;
+use numbers::table::NONE;
 use tool::Requested;
+use tool_memory::layout::SIZE;
 
 // What a request leaves besides its frame: the memory, and the cells where it is not refused.
 fn settle(
-    memory: &mut [u8; 263],
+    memory: &mut [u8; SIZE],
     requested: Requested,
     length: &mut usize,
     wake: &mut u8,
     ended: &mut u8,
 ) -> u8
-    ensures { λ r. ⌜ Settled requested r (now (memory .entry)) (now (memory .exit)) (now (length .entry)) (now (length .exit)) (now (wake .entry)) (now (wake .exit)) (now (ended .entry)) (now (ended .exit)) ⌝ }
+    ensures { λ r. ⌜ Settled (answerOfRequested requested) r (now (memory .entry)) (now (memory .exit)) (now (length .entry)) (now (length .exit)) (now (wake .entry)) (now (wake .exit)) (now (ended .entry)) (now (ended .exit)) ⌝ }
 {
     let tool = requested.tool;
     let answer = requested.answer;
     let number = answer.number();
     store(memory, tool, number);
-    if number != 0 {
+    if number != NONE {
         return number;
     }
     let frame = requested.frame;
     let waking = requested.wake;
     *length = frame.0;
     *wake = wake_mark(waking);
-    *ended = ended_mark(answer);
+    *ended = done_mark(answer);
     number
 }
 
 // Asks a station for a record.
 #[no_mangle]
 pub extern "C" fn propolisk_tool_read(
-    memory: &mut [u8; 263],
+    memory: &mut [u8; SIZE],
     ads: &[u8],
     adp: u8,
     tab: u8,
@@ -45,7 +48,7 @@ pub extern "C" fn propolisk_tool_read(
     wake: &mut u8,
     ended: &mut u8,
 ) -> u8
-    ensures { λ r. ⌜ record { number = r; memory = now (memory .exit); frame = now (frame .exit); length = now (length .exit); wake = now (wake .exit); ended = now (ended .exit) } ≡ requestOutcome (Read (now (ads .entry)) adp tab) (record { number = 0; memory = now (memory .entry); frame = now (frame .entry); length = now (length .entry); wake = now (wake .entry); ended = now (ended .entry) }) ⌝ }
+    ensures { λ r. ⌜ record { number = r; memory = now (memory .exit); loan = record { frame = now (frame .exit); length = now (length .exit); wake = now (wake .exit); ended = now (ended .exit) } } ≡ requestOutcome (reading (now (ads .entry)) adp tab) (now (memory .entry)) (record { frame = now (frame .entry); length = now (length .entry); wake = now (wake .entry); ended = now (ended .entry) }) ⌝ }
 {
     let tool = tool_memory::decode(memory);
     let requested = tool.read(ads, adp, tab, frame);
@@ -55,7 +58,7 @@ pub extern "C" fn propolisk_tool_read(
 // Writes a record without a key.
 #[no_mangle]
 pub extern "C" fn propolisk_tool_transfer(
-    memory: &mut [u8; 263],
+    memory: &mut [u8; SIZE],
     ads: &[u8],
     adp: u8,
     tab: u8,
@@ -65,7 +68,7 @@ pub extern "C" fn propolisk_tool_transfer(
     wake: &mut u8,
     ended: &mut u8,
 ) -> u8
-    ensures { λ r. ⌜ record { number = r; memory = now (memory .exit); frame = now (frame .exit); length = now (length .exit); wake = now (wake .exit); ended = now (ended .exit) } ≡ requestOutcome (Transfer (now (ads .entry)) adp tab (now («data» .entry))) (record { number = 0; memory = now (memory .entry); frame = now (frame .entry); length = now (length .entry); wake = now (wake .entry); ended = now (ended .entry) }) ⌝ }
+    ensures { λ r. ⌜ record { number = r; memory = now (memory .exit); loan = record { frame = now (frame .exit); length = now (length .exit); wake = now (wake .exit); ended = now (ended .exit) } } ≡ requestOutcome (transferring (now (ads .entry)) adp tab (now («data» .entry))) (now (memory .entry)) (record { frame = now (frame .entry); length = now (length .entry); wake = now (wake .entry); ended = now (ended .entry) }) ⌝ }
 {
     let tool = tool_memory::decode(memory);
     let requested = tool.transfer(ads, adp, tab, data, frame);
@@ -75,7 +78,7 @@ pub extern "C" fn propolisk_tool_transfer(
 // Writes a record with a key: REC now, and AUT after the right ECH.
 #[no_mangle]
 pub extern "C" fn propolisk_tool_program(
-    memory: &mut [u8; 263],
+    memory: &mut [u8; SIZE],
     ads: &[u8],
     adp: u8,
     tab: u8,
@@ -87,7 +90,7 @@ pub extern "C" fn propolisk_tool_program(
     wake: &mut u8,
     ended: &mut u8,
 ) -> u8
-    ensures { λ r. ⌜ record { number = r; memory = now (memory .exit); frame = now (frame .exit); length = now (length .exit); wake = now (wake .exit); ended = now (ended .exit) } ≡ requestOutcome (Program (now (ads .entry)) adp tab (now («data» .entry)) (now (key .entry)) (now (na1 .entry))) (record { number = 0; memory = now (memory .entry); frame = now (frame .entry); length = now (length .entry); wake = now (wake .entry); ended = now (ended .entry) }) ⌝ }
+    ensures { λ r. ⌜ record { number = r; memory = now (memory .exit); loan = record { frame = now (frame .exit); length = now (length .exit); wake = now (wake .exit); ended = now (ended .exit) } } ≡ requestOutcome (programming (now (ads .entry)) adp tab (now («data» .entry)) (now (key .entry)) (now (na1 .entry))) (now (memory .entry)) (record { frame = now (frame .entry); length = now (length .entry); wake = now (wake .entry); ended = now (ended .entry) }) ⌝ }
 {
     let tool = tool_memory::decode(memory);
     let requested = tool.program(ads, adp, tab, data, key, na1, frame);
@@ -97,7 +100,7 @@ pub extern "C" fn propolisk_tool_program(
 // Writes a record of every station; done once sent.
 #[no_mangle]
 pub extern "C" fn propolisk_tool_broadcast(
-    memory: &mut [u8; 263],
+    memory: &mut [u8; SIZE],
     ads: &[u8],
     adp: u8,
     tab: u8,
@@ -107,7 +110,7 @@ pub extern "C" fn propolisk_tool_broadcast(
     wake: &mut u8,
     ended: &mut u8,
 ) -> u8
-    ensures { λ r. ⌜ record { number = r; memory = now (memory .exit); frame = now (frame .exit); length = now (length .exit); wake = now (wake .exit); ended = now (ended .exit) } ≡ requestOutcome (Broadcast (now (ads .entry)) adp tab (now («data» .entry))) (record { number = 0; memory = now (memory .entry); frame = now (frame .entry); length = now (length .entry); wake = now (wake .entry); ended = now (ended .entry) }) ⌝ }
+    ensures { λ r. ⌜ record { number = r; memory = now (memory .exit); loan = record { frame = now (frame .exit); length = now (length .exit); wake = now (wake .exit); ended = now (ended .exit) } } ≡ requestOutcome (broadcasting (now (ads .entry)) adp tab (now («data» .entry))) (now (memory .entry)) (record { frame = now (frame .entry); length = now (length .entry); wake = now (wake .entry); ended = now (ended .entry) }) ⌝ }
 {
     let tool = tool_memory::decode(memory);
     let requested = tool.broadcast(ads, adp, tab, data, frame);
@@ -117,7 +120,7 @@ pub extern "C" fn propolisk_tool_broadcast(
 // Initialises the bus; done once sent.
 #[no_mangle]
 pub extern "C" fn propolisk_tool_initialise(
-    memory: &mut [u8; 263],
+    memory: &mut [u8; SIZE],
     ads: &[u8],
     adp: u8,
     frame: &mut [u8],
@@ -125,7 +128,7 @@ pub extern "C" fn propolisk_tool_initialise(
     wake: &mut u8,
     ended: &mut u8,
 ) -> u8
-    ensures { λ r. ⌜ record { number = r; memory = now (memory .exit); frame = now (frame .exit); length = now (length .exit); wake = now (wake .exit); ended = now (ended .exit) } ≡ requestOutcome (Initialise (now (ads .entry)) adp) (record { number = 0; memory = now (memory .entry); frame = now (frame .entry); length = now (length .entry); wake = now (wake .entry); ended = now (ended .entry) }) ⌝ }
+    ensures { λ r. ⌜ record { number = r; memory = now (memory .exit); loan = record { frame = now (frame .exit); length = now (length .exit); wake = now (wake .exit); ended = now (ended .exit) } } ≡ requestOutcome (initialising (now (ads .entry)) adp) (now (memory .entry)) (record { frame = now (frame .entry); length = now (length .entry); wake = now (wake .entry); ended = now (ended .entry) }) ⌝ }
 {
     let tool = tool_memory::decode(memory);
     let requested = tool.initialise(ads, adp, frame);

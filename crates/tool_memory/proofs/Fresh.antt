@@ -5,10 +5,9 @@ use Rattle.octets.specs.Splice.{spliced}
 use Rattle.receiver_memory.specs.Fields.{fieldAt}
 use Rattle.receiver_memory.specs.Receiver as receiver-memory
 use Rattle.tool.specs.Parts.{fresh}
-use Rattle.tool_memory.specs.Phases.{phaseOf}
-use Rattle.tool_memory.specs.Waking.{wakingOf}
-use Rattle.tool_memory.specs.Layout.{marksInUse, decoded, freshMemory}
+use Rattle.tool_memory.specs.Marks.{phaseOf}
+use Rattle.tool_memory.specs.Decoding.{freshMemory, marksInUse, wakingIn, decoded}
 
 pub fresh-decoded : decoded freshMemory ≡ fresh
-unfolding freshMemory decoded marksInUse phaseOf wakingOf receiver-memory.decoded fieldAt partOf spliced
+unfolding freshMemory decoded marksInUse phaseOf wakingIn receiver-memory.decoded fieldAt partOf spliced
 fresh-decoded = refl

@@ -1,7 +1,6 @@
-mod Flat
-mod Ten
-mod Marks
 pub mod Shape
+mod PhaseMarks
+pub mod ToolPuts
 pub mod RoundTrip
 pub mod Memory
 pub mod Refusing

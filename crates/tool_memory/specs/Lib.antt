@@ -1,3 +1,4 @@
-pub mod Phases
-pub mod Waking
 pub mod Layout
+pub mod Marks
+pub mod Decoding
+pub mod Encoding

@@ -1,30 +1,18 @@
--- Requests and their endings, one after the other, and the wake-ups that the memory gives.
+-- Entries of the list of all requests, as requests are sent and end.
 use Prim.Native.Nat.{ℕ}
-use mathlib.Core.Bool.{Bool, true, false, cond}
 use mathlib.Core.List.{List, [], _∷_}
 use Rattle.wake.specs.declared.Request.{Request}
-use Rattle.wake.specs.declared.WakeUps.{WakeUps}
-use Rattle.wake.specs.Rule.{wakeBefore, asked, succeeded}
-use Rattle.wake.specs.Clauses.{Entry, isAgn}
+use Rattle.wake.specs.declared.Wake.{Wake}
+use Rattle.wake.specs.Clauses.{Ending, running, Entry}
 
--- a request, the station it goes to, and whether it ends without a number
-pub record Exchange : Type 0 where
-  pub request : Request
-  pub station : List ℕ
-  pub succeeded : Bool
+-- a request that was sent, and has not ended yet
+abbrev pub sent : Request → List ℕ → Wake → Entry
+sent r s w = record { request = r; station = s; wake = w; ending = running }
 
--- the entry for a request that is not over yet, with the wake-up that the memory gives
-abbrev pub entered : WakeUps → Request → List ℕ → Entry
-entered w r s = record { request = r; station = s; woken = isAgn (wakeBefore w r s); succeeded = false }
+abbrev pub endedAs : Ending → Entry → Entry
+endedAs n e = record { request = e .request; station = e .station; wake = e .wake; ending = n }
 
--- the entry of a request that has ended without a number
-abbrev pub done : Entry → Entry
-done e = record { request = e .request; station = e .station; woken = e .woken; succeeded = true }
-
--- the entries of the exchanges xs after those of the past, the latest first
-unfoldable pub entries : WakeUps → List Exchange → List Entry → List Entry
-entries w [] past = past
-entries w (x ∷ xs) past =
-    let w′ = asked w (x .request) (x .station) in
-    let e = entered w (x .request) (x .station) in
-    cond (x .succeeded) (entries (succeeded w′) xs (done e ∷ past)) (entries w′ xs (e ∷ past))
+-- the latest request has ended so
+abbrev pub latestEnded : Ending → List Entry → List Entry
+latestEnded n [] = []
+latestEnded n (e ∷ past) = endedAs n e ∷ past

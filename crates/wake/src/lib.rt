@@ -27,10 +27,15 @@ pub enum Last {
 // A count of exchanges up to five, which stands for any more.
 pub struct Exchanges(pub u8);
 
-// What the rule looks at: the last request, the station of the last ENQ or TRF, and how many ENQ and TRF have succeeded since the last wake-up.
+// So many ENQ and TRF to one station succeed after one wake-up.
+const MOST_EXCHANGES: u8 = 5;
+
+// The octets of a station's address.
+const STATION_WIDTH: usize = 6;
+
+// What the rule looks at besides the last request: the station of the last ENQ or TRF, and how many ENQ and TRF have succeeded since the last wake-up.
 pub struct WakeUps {
-    pub last: Last,
-    pub station: [u8; 6],
+    pub station: [u8; STATION_WIDTH],
     pub successes: Exchanges,
 }
 
@@ -54,17 +59,15 @@ impl WakeUps {
         ensures { λ r. ⌜ r ≡ fresh ⌝ }
     {
         WakeUps {
-            last: Last::Other,
-            station: [0u8; 6],
+            station: [0u8; STATION_WIDTH],
             successes: Exchanges(0),
         }
     }
 
     // Whether an ENQ or TRF to this station needs no wake-up.
-    fn awake(self, station: [u8; 6]) -> bool
-        ensures { λ r. ⌜ r ≡ awake self station ⌝ }
+    fn awake(self, last: Last, station: [u8; STATION_WIDTH]) -> bool
+        ensures { λ r. ⌜ r ≡ awake last self station ⌝ }
     {
-        let last = self.last;
         let Last::EnqTrf = last else {
             return false;
         };
@@ -73,23 +76,21 @@ impl WakeUps {
             return false;
         }
         let successes = self.successes;
-        successes.0 < 5
+        successes.0 < MOST_EXCHANGES
     }
 
     // After an ENQ or TRF to this station: a wake-up starts the count anew.
-    fn calling(self, station: [u8; 6]) -> WakeUps
-        ensures { λ r. ⌜ r ≡ calling self station ⌝ }
+    fn calling(self, last: Last, station: [u8; STATION_WIDTH]) -> WakeUps
+        ensures { λ r. ⌜ r ≡ calling last self station ⌝ }
     {
         let successes = self.successes;
-        if self.awake(station) {
+        if self.awake(last, station) {
             return WakeUps {
-                last: Last::EnqTrf,
                 station: station,
                 successes: successes,
             };
         }
         WakeUps {
-            last: Last::EnqTrf,
             station: station,
             successes: Exchanges(0),
         }
@@ -101,20 +102,19 @@ impl WakeUps {
     {
         let known = self.station;
         WakeUps {
-            last: Last::Other,
             station: known,
             successes: Exchanges(0),
         }
     }
 
-    // The wake-up that goes before a request to this station.
-    pub fn before(self, request: Request, station: [u8; 6]) -> Wake
-        ensures { λ r. ⌜ r ≡ wakeBefore self request station ⌝ }
+    // The wake-up that goes before a request to this station, where the last request was this one.
+    pub fn before(self, last: Last, request: Request, station: [u8; STATION_WIDTH]) -> Wake
+        ensures { λ r. ⌜ r ≡ wakeBefore last self request station ⌝ }
     {
         if !request.enq_or_trf() {
             return Wake::Agn;
         }
-        if self.awake(station) {
+        if self.awake(last, station) {
             Wake::None
         } else {
             Wake::Agn
@@ -122,27 +122,26 @@ impl WakeUps {
     }
 
     // After a request to this station.
-    pub fn asked(self, request: Request, station: [u8; 6]) -> WakeUps
-        ensures { λ r. ⌜ r ≡ asked self request station ⌝ }
+    pub fn asked(self, last: Last, request: Request, station: [u8; STATION_WIDTH]) -> WakeUps
+        ensures { λ r. ⌜ r ≡ asked last self request station ⌝ }
     {
         if request.enq_or_trf() {
-            self.calling(station)
+            self.calling(last, station)
         } else {
             self.otherwise()
         }
     }
 
     // After the last request has ended without a number.
-    pub fn succeeded(self) -> WakeUps
-        ensures { λ r. ⌜ r ≡ succeeded self ⌝ }
+    pub fn succeeded(self, last: Last) -> WakeUps
+        ensures { λ r. ⌜ r ≡ succeeded last self ⌝ }
     {
-        let last = self.last;
         let Last::EnqTrf = last else {
             return self;
         };
         let successes = self.successes;
         let count = successes.0;
-        if 5 <= count {
+        if MOST_EXCHANGES <= count {
             return self;
         }
         let counted = Exchanges(count + 1);

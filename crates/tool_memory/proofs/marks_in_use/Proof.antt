@@ -1,7 +1,7 @@
--- `marks_in_use` tests one mark after the other.
+-- `marks_in_use` tests the two marks.
 use borrow.Author.Tests.{le-leb, lt-leb}
+use Rattle.tool_memory.specs.Decoding.{marksInUse}
 use borrow.Author.Needs.{needs}
-use Rattle.tool_memory.specs.Layout.{marksInUse}
 use Rattle.tool_memory.proofs.marks_in_use.Statement.{statement}
 use Rattle.tool_memory.proofs.marks_in_use.Tie as tie
 
@@ -10,23 +10,18 @@ octet-requires c κs = search needs
 
 returns : tie.Need-returns
 unfolding marksInUse
-returns c = rw (← c .before .octet .ensures, lt-leb _ _ (c .if1 .taken))
+returns c = rw (lt-leb _ _ (rw (c .before .octet .ensures) at (c .if1 .taken)))
+
+add-octet : tie.Need-add-octet
+add-octet c = search needs
 
 octet-requires-2 : tie.Need-octet-requires-2
 octet-requires-2 c κs = search needs
 
 returns-2 : tie.Need-returns-2
 unfolding marksInUse
-returns-2 c = rw (← c .before .before .before .octet .ensures, le-leb _ _ (c .before .before .if1 .left), ← c .before .octet2 .ensures, lt-leb _ _ (c .if2 .taken))
-
-octet-requires-3 : tie.Need-octet-requires-3
-octet-requires-3 c κs = search needs
-
-returns-3 : tie.Need-returns-3
-unfolding marksInUse
-returns-3 c = rw (← c .before .before .before .before .octet .ensures, le-leb _ _ (c .before .before .before .if1 .left), ← c .before .before .octet2 .ensures, le-leb _ _ (c .before .if2 .left), ← c .octet3 .ensures)
+returns-2 c = rw (le-leb _ _ (rw (c .before .before .octet .ensures) at (c .before .if1 .left)), c .octet2 .ensures)
 
 pub marks-in-use-spec : {M : Type 1} → statement M
 marks-in-use-spec =
-    tie.close
-    (tie.spec octet-requires returns octet-requires-2 returns-2 octet-requires-3 returns-3)
+    tie.close (tie.spec octet-requires returns add-octet octet-requires-2 returns-2)

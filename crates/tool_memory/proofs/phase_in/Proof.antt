@@ -1,17 +1,20 @@
 -- `phase_in` is the phase of the tool that the memory holds, by the test of the marks.
 use mathlib.Core.Path.{sym, _∙_}
 use borrow.Author.Tests.{not-true, not-false}
+use Rattle.tool_memory.specs.Decoding.{decoded}
 use borrow.Author.Needs.{needs}
-use Rattle.tool_memory.specs.Layout.{decoded}
 use Rattle.tool_memory.proofs.phase_in.Statement.{statement}
 use Rattle.tool_memory.proofs.phase_in.Tie as tie
 
 marks-in-use-requires : tie.Need-marks-in-use-requires
 marks-in-use-requires c κs = search needs
 
+unused-requires : tie.Need-unused-requires
+unused-requires c κs = search needs
+
 returns : tie.Need-returns
 unfolding decoded
-returns c = rw (sym (c .before .marks-in-use .ensures) ∙ not-true _ (c .if1 .taken))
+returns c = rw (sym (c .before .before .marks-in-use .ensures) ∙ not-true _ (c .before .if1 .taken)) (c .unused .ensures)
 
 octet-requires : tie.Need-octet-requires
 octet-requires c κs = search needs
@@ -34,6 +37,7 @@ phase-in-spec =
     tie.close
     (tie.spec
     marks-in-use-requires
+    unused-requires
     returns
     octet-requires
     octet-requires-2

@@ -1,7 +1,9 @@
 -- `Tool::authenticating` sends AUT.
-use Rattle.frame.specs.Layout.{layoutOf, within}
-use Rattle.octets.specs.Between.{between}
+use mathlib.Core.Path.{ap, _∙_}
+use Rattle.tool.specs.Parts.{Told}
 use mathlib.Core.Path.{refl}
+use Rattle.octets.specs.Between.{between}
+use Rattle.frame.specs.Layout.{layoutOf, within}
 use borrow.Author.Needs.{needs}
 use Rattle.tool.proofs.Tool.authenticating.Statement.{statement}
 use Rattle.tool.proofs.Tool.authenticating.Tie as tie
@@ -28,7 +30,12 @@ same-length c = search needs
 returns : tie.Need-returns
 returns c =
     let sent = rw (c .before .before .before .before .before .before .before .authentication .ensures) at (c .before .before .send .ensures) in
-    record { step = rw (c .before .before .before .before .before .hearing .ensures, c .before .before .before .before .before .before .in-phase .ensures, sent .octets); buffer = sent .buffer }
+    let told = rw (c .before .before .before .before .before .before .in-phase .ensures) at (c .before .before .before .before .before .hearing .ensures) in
+    let n = c .before .before .send .result in
+    record {
+      answer = ap (λ (x : Told). record { tool = x .tool; answer = x .answer; wake = x .wake; frame = n; contents = x .contents }) told ∙ rw (sent .octets);
+      buffer = sent .buffer;
+    }
 
 pub authenticating-spec : {M : Type 1} → statement M
 authenticating-spec =

@@ -10,7 +10,7 @@ fields-to-requires : tie.Need-fields-to-requires
 fields-to-requires c κs = search needs
 
 returns : tie.Need-returns
-returns c = rw (← c .before .encipher .ensures) (c .fields-to .ensures)
+returns c = rw (c .fields-to .ensures, c .before .encipher .ensures)
 
 pub authentication-spec : {M : Type 1} → statement M
 authentication-spec = tie.close (tie.spec encipher-requires fields-to-requires returns)

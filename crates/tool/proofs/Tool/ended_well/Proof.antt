@@ -1,10 +1,13 @@
--- `Tool::ended_well` tells the wake-up memory.
+-- `Tool::ended_well` counts the success.
 use borrow.Author.Needs.{needs}
 use Rattle.tool.proofs.Tool.ended_well.Statement.{statement}
 use Rattle.tool.proofs.Tool.ended_well.Tie as tie
 
-in-phase-requires : tie.Need-in-phase-requires
-in-phase-requires c κs = search needs
+ended-requires : tie.Need-ended-requires
+ended-requires c κs = search needs
+
+last-requires : tie.Need-last-requires
+last-requires c κs = search needs
 
 succeeded-requires : tie.Need-succeeded-requires
 succeeded-requires c κs = search needs
@@ -13,8 +16,9 @@ with-waking-requires : tie.Need-with-waking-requires
 with-waking-requires c κs = search needs
 
 returns : tie.Need-returns
-returns c = rw (c .with-waking .ensures, c .before .succeeded .ensures, c .before .before .in-phase .ensures)
+returns c = rw (c .with-waking .ensures, c .before .succeeded .ensures, c .before .before .last .ensures, c .before .before .before .ended .ensures)
 
 pub ended-well-spec : {M : Type 1} → statement M
 ended-well-spec =
-    tie.close (tie.spec in-phase-requires succeeded-requires with-waking-requires returns)
+    tie.close
+    (tie.spec ended-requires last-requires succeeded-requires with-waking-requires returns)

@@ -4,13 +4,13 @@ use Rattle.tool.proofs.Lengths.{receiver-length}
 use Rattle.tool.proofs.Sound.{test-sound}
 use Rattle.tool.specs.Events.{afterGap}
 use Rattle.tool.specs.Soundness.{sound}
-use Rattle.tool.specs.Parts.{answered, responding}
-use Rattle.tool.specs.declared.Refusal.the-variants.{BadFrame}
-use Rattle.tool.specs.declared.Answer.the-variants.{Nothing, Refused}
+use Rattle.tool.specs.Answers.{nothing}
+use Rattle.tool.specs.Parts.{told, responding}
+use Rattle.frame.specs.Checks.{faultNumber}
+use Rattle.numbers.specs.Answer as answer
 use Rattle.receiver.proofs.Follows.{Follows, gap-follows}
-use Rattle.receiver.specs.Receiver.{receptionOf, given, afterGap as receiverAfterGap}
+use Rattle.receiver.specs.Receiver.{Response, answerOfEvent, answerOfReceived, receptionOf, stepped, afterGap as receiverAfterGap}
 use Rattle.receiver.specs.Receiving.{onGap}
-use Rattle.receiver.specs.declared.Received.{Received}
 use borrow.Author.Tests.{not-true, not-false}
 use mathlib.Core.Bool.{true}
 use mathlib.Core.Path.{_≡_, sym, ap, _∙_}
@@ -27,7 +27,7 @@ rule c =
     gap-follows (a .args .self .receiver) (test-sound (a .args .self) (passed (c .before .before)) .receiver) (receiver-length (a .args .self) _ (a .good .0))
 
 -- what the receiver gave is what 01, Receiving, gives
-follows : (c : tie.After-gap) → c .gap .result ≡ given (c .before .before .before .before .args .self .receiver) (onGap (receptionOf (c .before .before .before .before .args .self .receiver)))
+follows : (c : tie.After-gap) → answerOfReceived (c .gap .result) ≡ stepped (c .before .before .before .before .args .self .receiver) (onGap (receptionOf (c .before .before .before .before .args .self .receiver)))
 follows c = c .gap .ensures ∙ rule c .answer
 
 sound-requires : tie.Need-sound-requires
@@ -75,21 +75,21 @@ unfolding afterGap
 returns-2 c =
     let t = c .before .before .before .before .before .before .before .before .before .args .self in
     let e = told-nothing t _ (c .before .before .before .before .before .gap .result) (follows (c .before .before .before .before .before)) (c .before .enum-told .given .1) in
-    rw (passed (c .before .before .before .before .before .before .before)) (c .answering2 .ensures ∙ ap answered (ap (λ n. responding n Nothing) (c .before .before .before .with-receiver .ensures) ∙ e))
+    rw (passed (c .before .before .before .before .before .before .before)) (c .answering2 .ensures ∙ ap told (ap (λ n. responding n (answer.given nothing)) (c .before .before .before .with-receiver .ensures) ∙ e))
 
 returns-3 : tie.Need-returns-3
 unfolding afterGap
 returns-3 c =
     let t = c .before .before .before .before .before .before .before .before .before .before .args .self in
     let e = told-bad t _ (c .before .before .before .before .before .before .gap .result) (follows (c .before .before .before .before .before .before)) _ (c .before .before .event .given .1) in
-    rw (passed (c .before .before .before .before .before .before .before .before)) (c .answering3 .ensures ∙ ap answered (ap (λ n. responding n (Refused (BadFrame (c .before .before .event .given .0 .0)))) (c .before .before .before .before .with-receiver .ensures) ∙ e))
+    rw (passed (c .before .before .before .before .before .before .before .before)) (c .answering3 .ensures ∙ ap told (ap (λ n. responding n (answer.refused (faultNumber (c .before .before .event .given .0 .0)))) (c .before .before .before .before .with-receiver .ensures) ∙ e))
 
 returns-4 : tie.Need-returns-4
 returns-4 c = told-no-frame (c .before .before .before .before .before .before .before .before .before .args .self) (c .before .before .before .before .before .gap .result) (follows (c .before .before .before .before .before)) _ (c .before .enum-told2 .given .1)
 
 returns-5 : tie.Need-returns-5
 returns-5 c =
-    absurd (rule (c .before .before .before .before .before) .unrefused (sym (ap (λ (r : Received). r .event) (c .before .before .before .before .before .gap .ensures)) ∙ c .before .enum-told3 .given .1))
+    absurd (rule (c .before .before .before .before .before) .unbroken (sym (ap (λ (r : Response). r .answer) (c .before .before .before .before .before .gap .ensures)) ∙ ap answerOfEvent (c .before .enum-told3 .given .1)))
 
 pub gap-spec : {M : Type 1} → statement M
 gap-spec =

@@ -1,4 +1,4 @@
--- `Tool::new` is made of a fresh memory and a fresh receiver.
+-- `Tool::new` is a fresh tool.
 use borrow.Author.Needs.{needs}
 use Rattle.tool.proofs.Tool.new.Statement.{statement}
 use Rattle.tool.proofs.Tool.new.Tie as tie
@@ -10,7 +10,7 @@ new-requires-2 : tie.Need-new-requires-2
 new-requires-2 c κs = search needs
 
 returns : tie.Need-returns
-returns c = rw (c .new2 .ensures, c .before .new .ensures)
+returns c = rw (c .before .new .ensures, c .new2 .ensures)
 
 pub new-spec : {M : Type 1} → statement M
 new-spec = tie.close (tie.spec new-requires new-requires-2 returns)

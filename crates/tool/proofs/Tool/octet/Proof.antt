@@ -2,7 +2,6 @@
 use Rattle.tool.proofs.Sound.{test-sound}
 use Rattle.tool.proofs.Gives.{gives-nothing}
 use Rattle.tool.specs.Events.{afterOctet}
-use Rattle.tool.specs.Parts.{heard}
 use borrow.Author.Tests.{le-leb, lt-leb, not-true, not-false}
 use mathlib.Core.Path.{sym, _∙_}
 use borrow.Author.Needs.{needs}
@@ -14,7 +13,7 @@ hearing-requires c κs = search needs
 
 returns : tie.Need-returns
 unfolding afterOctet
-returns c = rw (lt-leb _ _ (c .before .if1 .taken)) (gives-nothing heard _ _ _ _ (c .hearing .ensures))
+returns c = rw (lt-leb _ _ (c .before .if1 .taken)) (gives-nothing _ _ _ _ (c .hearing .ensures))
 
 sound-requires : tie.Need-sound-requires
 sound-requires c κs = search needs
@@ -25,7 +24,7 @@ hearing-requires-2 c κs = search needs
 returns-2 : tie.Need-returns-2
 unfolding afterOctet
 returns-2 c =
-    rw (le-leb _ _ (c .before .before .before .if1 .left), sym (c .before .before .sound .ensures) ∙ not-true _ (c .before .if2 .taken)) (gives-nothing heard _ _ _ _ (c .hearing2 .ensures))
+    rw (le-leb _ _ (c .before .before .before .if1 .left), sym (c .before .before .sound .ensures) ∙ not-true _ (c .before .if2 .taken)) (gives-nothing _ _ _ _ (c .hearing2 .ensures))
 
 heard-requires : tie.Need-heard-requires
 heard-requires c κs = (test-sound _ (sym (c .before .before .sound .ensures) ∙ not-false _ (c .before .if2 .left)), c .before .before .before .if1 .left)

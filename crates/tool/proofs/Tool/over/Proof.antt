@@ -1,16 +1,16 @@
--- `Tool::over` leaves the phase.
+-- `Tool::over` ends the request.
 use borrow.Author.Needs.{needs}
 use Rattle.tool.proofs.Tool.over.Statement.{statement}
 use Rattle.tool.proofs.Tool.over.Tie as tie
 
-in-phase-requires : tie.Need-in-phase-requires
-in-phase-requires c κs = search needs
+ended-requires : tie.Need-ended-requires
+ended-requires c κs = search needs
 
 hearing-requires : tie.Need-hearing-requires
 hearing-requires c κs = search needs
 
 returns : tie.Need-returns
-returns c = rw (c .hearing .ensures, c .before .in-phase .ensures)
+returns c = rw (c .before .ended .ensures) at (c .hearing .ensures)
 
 pub over-spec : {M : Type 1} → statement M
-over-spec = tie.close (tie.spec in-phase-requires hearing-requires returns)
+over-spec = tie.close (tie.spec ended-requires hearing-requires returns)

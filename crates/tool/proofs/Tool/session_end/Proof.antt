@@ -3,14 +3,13 @@ use Rattle.tool.proofs.Lengths.{receiver-length}
 use Rattle.tool.proofs.Sound.{test-sound}
 use Rattle.tool.specs.Events.{afterSessionEnd}
 use Rattle.tool.specs.Soundness.{sound}
-use Rattle.tool.specs.Parts.{inPhase, withReceiver, answered, responding}
-use Rattle.tool.specs.declared.Refusal.the-variants.{SessionEnded}
-use Rattle.tool.specs.declared.Answer.the-variants.{Nothing, Refused}
-use Rattle.tool.specs.declared.Phase.the-variants.{Idle}
+use Rattle.numbers.specs.Answer.{given, refused}
+use Rattle.numbers.specs.Table.{sessionEnded}
+use Rattle.tool.specs.Answers.{nothing}
+use Rattle.tool.specs.Parts.{withReceiver, ended, told, responding}
 use Rattle.receiver.proofs.Follows.{session-end-follows}
-use Rattle.receiver.specs.Receiver.{holding}
-use Rattle.receiver.specs.Receiving.{Awaiting, onSessionEnd}
-use Rattle.receiver.specs.declared.Received.{Received}
+use Rattle.receiver.specs.Receiver.{Response, receptionOf, holding}
+use Rattle.receiver.specs.Receiving.{onSessionEnd}
 use borrow.Author.Tests.{not-true, not-false}
 use mathlib.Core.Bool.{true}
 use mathlib.Core.Path.{_≡_, sym, ap, _∙_}
@@ -21,12 +20,11 @@ use Rattle.tool.proofs.Tool.session_end.Tie as tie
 passed : (c : tie.Else1) → sound (c .before .before .args .self) ≡ true
 passed c = sym (c .before .sound .ensures) ∙ not-false _ (c .if1 .left)
 
-emptied : (c : tie.After-session-end) → c .session-end .result .receiver ≡ holding Awaiting (c .before .before .before .before .args .self .receiver)
-unfolding onSessionEnd
+emptied : (c : tie.After-session-end) → c .session-end .result .receiver ≡ holding (onSessionEnd (receptionOf (c .before .before .before .before .args .self .receiver)) .next) (c .before .before .before .before .args .self .receiver)
 emptied c =
     let a = c .before .before .before .before in
     let f = session-end-follows (a .args .self .receiver) (test-sound (a .args .self) (passed (c .before .before)) .receiver) (receiver-length (a .args .self) _ (a .good .0)) in
-    ap (λ (r : Received). r .receiver) (c .session-end .ensures ∙ f .answer)
+    ap (λ (r : Response). r .receiver) (c .session-end .ensures ∙ f .answer)
 
 sound-requires : tie.Need-sound-requires
 sound-requires c κs = search needs
@@ -54,10 +52,10 @@ returns-2 : tie.Need-returns-2
 unfolding afterSessionEnd
 returns-2 c =
     rw (passed (c .before .before .before .before .before .before .before), sym (c .before .before .idle .ensures) ∙ c .before .if2 .taken)
-    (c .answering2 .ensures ∙ ap (λ n. answered (responding n Nothing)) (c .before .before .before .with-receiver .ensures ∙ ap (λ r. withReceiver r (c .before .before .before .before .before .before .before .before .before .args .self)) (emptied (c .before .before .before .before .before))))
+    (c .answering2 .ensures ∙ ap (λ n. told (responding n (given nothing))) (c .before .before .before .with-receiver .ensures ∙ ap (λ r. withReceiver r (c .before .before .before .before .before .before .before .before .before .args .self)) (emptied (c .before .before .before .before .before))))
 
-in-phase-requires : tie.Need-in-phase-requires
-in-phase-requires c κs = search needs
+ended-requires : tie.Need-ended-requires
+ended-requires c κs = search needs
 
 answering-requires-3 : tie.Need-answering-requires-3
 answering-requires-3 c κs = search needs
@@ -66,7 +64,7 @@ returns-3 : tie.Need-returns-3
 unfolding afterSessionEnd
 returns-3 c =
     rw (passed (c .before .before .before .before .before .before .before .before), sym (c .before .before .before .idle .ensures) ∙ c .before .before .if2 .left)
-    (c .answering3 .ensures ∙ ap (λ n. answered (responding n (Refused SessionEnded))) (c .before .in-phase .ensures ∙ ap (inPhase Idle) (c .before .before .before .before .with-receiver .ensures ∙ ap (λ r. withReceiver r (c .before .before .before .before .before .before .before .before .before .before .args .self)) (emptied (c .before .before .before .before .before .before)))))
+    (c .answering3 .ensures ∙ ap (λ n. told (responding n (refused sessionEnded))) (c .before .ended .ensures ∙ ap ended (c .before .before .before .before .with-receiver .ensures ∙ ap (λ r. withReceiver r (c .before .before .before .before .before .before .before .before .before .before .args .self)) (emptied (c .before .before .before .before .before .before)))))
 
 pub session-end-spec : {M : Type 1} → statement M
 session-end-spec =
@@ -80,6 +78,6 @@ session-end-spec =
     idle-requires
     answering-requires-2
     returns-2
-    in-phase-requires
+    ended-requires
     answering-requires-3
     returns-3)

@@ -1,6 +1,7 @@
 -- `contents_of` lays DATA over the zeros.
 use Rattle.octets.proofs.Splice.{spliced-front}
 use lib.ListN.{replicate}
+use Rattle.frame.specs.Sizes.{mostTransferred}
 use borrow.Author.Needs.{needs}
 use Rattle.tool.proofs.replies.contents_of.Statement.{statement}
 use Rattle.tool.proofs.replies.contents_of.Tie as tie
@@ -12,7 +13,7 @@ put-requires : tie.Need-put-requires
 put-requires c κs = search needs
 
 returns : tie.Need-returns
-returns c = rw (c .before .put .ensures, spliced-front (replicate 116 0) _ (c .before .before .before .before .pre))
+returns c = rw (c .before .put .ensures, spliced-front (replicate mostTransferred 0) _ (c .before .before .before .before .pre))
 
 pub contents-of-spec : {M : Type 1} → statement M
 contents-of-spec = tie.close (tie.spec slice-aggregate-put put-requires returns)

@@ -1,6 +1,6 @@
 -- A fresh tool's memory is zeros.
 use mathlib.Core.Path.{refl}
-use Rattle.tool_memory.specs.Layout.{freshMemory}
+use Rattle.tool_memory.specs.Decoding.{freshMemory}
 use Rattle.tool_exports.proofs.events.propolisk_tool_new.Statement.{statement}
 use Rattle.tool_exports.proofs.events.propolisk_tool_new.Tie as tie
 

@@ -1,6 +1,6 @@
 -- `settle` leaves cells and DATA where the octet has a number, and writes them else.
-use borrow.Author.Needs.{needs}
 use Rattle.tool_exports.proofs.Given.{octet-refused, octet-shown}
+use borrow.Author.Needs.{needs}
 use Rattle.tool_exports.proofs.events.settle.Statement.{statement}
 use Rattle.tool_exports.proofs.events.settle.Tie as tie
 
@@ -13,30 +13,16 @@ store-requires c κs = search needs
 returns : tie.Need-returns
 returns c = octet-refused _ _ _ _ _ _ _ _ (c .before .before .before .number .ensures) (c .before .store .ensures) (c .if1 .taken)
 
-slice-aggregate-part : tie.Need-slice-aggregate-part
-slice-aggregate-part c = search needs
+show-requires : tie.Need-show-requires
+show-requires c κs = search needs
 
-part-requires : tie.Need-part-requires
-part-requires c κs = search needs
-
-put-requires : tie.Need-put-requires
-put-requires c κs = search needs
-
-ended-mark-requires : tie.Need-ended-mark-requires
-ended-mark-requires c κs = search needs
+done-mark-requires : tie.Need-done-mark-requires
+done-mark-requires c κs = search needs
 
 returns-2 : tie.Need-returns-2
-returns-2 c = octet-shown _ _ _ _ _ _ _ _ (c .before .before .before .before .before .before .before .before .before .before .before .before .number .ensures) (c .before .before .before .before .before .before .before .before .before .before .store .ensures) (c .before .before .before .before .before .before .before .before .before .if1 .left) _ _ _ (c .ended-mark .ensures) (c .before .before .part .ensures) (c .before .put .ensures)
+returns-2 c = octet-shown _ _ _ _ _ _ _ _ (c .before .before .before .before .before .before .before .before .before .number .ensures) (c .before .before .before .before .before .before .before .store .ensures) (c .before .before .before .before .before .before .if1 .left) _ _ (c .done-mark .ensures) (c .before .show .ensures)
 
 pub settle-spec : {M : Type 1} → statement M
 settle-spec =
     tie.close
-    (tie.spec
-    number-requires
-    store-requires
-    returns
-    slice-aggregate-part
-    part-requires
-    put-requires
-    ended-mark-requires
-    returns-2)
+    (tie.spec number-requires store-requires returns show-requires done-mark-requires returns-2)

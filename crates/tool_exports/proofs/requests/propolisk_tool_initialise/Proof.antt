@@ -2,7 +2,7 @@
 use lib.ListN.{length}
 use denote.Ref.{now}
 use borrow.Author.Needs.{needs}
-use Rattle.tool.specs.Requests.{afterInitialise}
+use Rattle.tool.specs.Requests.{initialising, afterAsking}
 use Rattle.tool.specs.Events.{after}
 use Rattle.tool_exports.specs.Outcomes.{requestOutcome}
 use Rattle.tool_exports.proofs.Given.{request-given}
@@ -25,7 +25,7 @@ returns : tie.Need-returns
 unfolding requestOutcome after
 returns c =
     let a = c .before .before .before .before .before .before .before .before .before .before .before .before .before .before .args in
-    request-given (λ t. afterInitialise t (now (a .ads)) (a .adp) (length (now (a .frame)))) _ _ _ _ _ _ _ _ _ _ _ _ _
+    request-given (λ t. afterAsking t (initialising (now (a .ads)) (a .adp)) (length (now (a .frame)))) _ _ _ _ _ _ _ _ _ _ _ _ _
     (c .before .before .before .before .before .before .before .before .before .decode .ensures) (c .before .before .before .before .before .before .before .initialise .ensures) (c .settle .ensures)
 
 pub propolisk-tool-initialise-spec : {M : Type 1} → statement M

@@ -2,7 +2,7 @@
 use lib.ListN.{length}
 use denote.Ref.{now}
 use borrow.Author.Needs.{needs}
-use Rattle.tool.specs.Requests.{afterTransfer}
+use Rattle.tool.specs.Requests.{transferring, afterAsking}
 use Rattle.tool.specs.Events.{after}
 use Rattle.tool_exports.specs.Outcomes.{requestOutcome}
 use Rattle.tool_exports.proofs.Given.{request-given}
@@ -25,7 +25,7 @@ returns : tie.Need-returns
 unfolding requestOutcome after
 returns c =
     let a = c .before .before .before .before .before .before .before .before .before .before .before .before .before .before .before .args in
-    request-given (λ t. afterTransfer t (now (a .ads)) (a .adp) (a .tab) (now (a .«data»)) (length (now (a .frame)))) _ _ _ _ _ _ _ _ _ _ _ _ _
+    request-given (λ t. afterAsking t (transferring (now (a .ads)) (a .adp) (a .tab) (now (a .«data»))) (length (now (a .frame)))) _ _ _ _ _ _ _ _ _ _ _ _ _
     (c .before .before .before .before .before .before .before .before .before .decode .ensures) (c .before .before .before .before .before .before .before .transfer .ensures) (c .settle .ensures)
 
 pub propolisk-tool-transfer-spec : {M : Type 1} → statement M

@@ -16,11 +16,11 @@ returns c = settled-refused _ _ _ _ _ _ _ (c .before .before .before .number .en
 wake-mark-requires : tie.Need-wake-mark-requires
 wake-mark-requires c κs = search needs
 
-ended-mark-requires : tie.Need-ended-mark-requires
-ended-mark-requires c κs = search needs
+done-mark-requires : tie.Need-done-mark-requires
+done-mark-requires c κs = search needs
 
 returns-2 : tie.Need-returns-2
-returns-2 c = settled-shown _ _ _ _ _ _ _ (c .before .before .before .before .before .before .number .ensures) (c .before .before .before .before .store .ensures) (c .before .before .before .if1 .left) _ _ (c .before .wake-mark .ensures) (c .ended-mark .ensures)
+returns-2 c = settled-shown _ _ _ _ _ _ _ (c .before .before .before .before .before .before .number .ensures) (c .before .before .before .before .store .ensures) (c .before .before .before .if1 .left) _ _ (c .before .wake-mark .ensures) (c .done-mark .ensures)
 
 pub settle-spec : {M : Type 1} → statement M
 settle-spec =
@@ -30,5 +30,5 @@ settle-spec =
     store-requires
     returns
     wake-mark-requires
-    ended-mark-requires
+    done-mark-requires
     returns-2)
