@@ -2,7 +2,7 @@
 //! Built and run by `compare/figures`, not by the gate. What is measured is asserted to agree.
 
 use crate::des;
-use crate::ffi::leaves as ours;
+use crate::ffi::primitives as ours;
 use crate::ffi::Lent;
 use crate::figures_card;
 use crate::figures_receiver;

@@ -2,7 +2,7 @@
 //! and compared with our libraries.
 //!
 //! `compare PART.. [--cases N] [--seed S]`, with N at least 1; the parts are `vectors` (the program against published data
-//! and itself), our programs by their names and, where compiled in, `leaves`, `frames`, `card`, `swap` and `tool`. `compare print
+//! and itself), our programs by their names and, where compiled in, `primitives`, `frames`, `card`, `swap` and `tool`. `compare print
 //! PROGRAM` prints what a program should print for standard input, and `compare write PROGRAM` its stored
 //! input, or what a C example should print, where that is made here.
 
@@ -46,7 +46,7 @@ mod card_calls;
 mod card_memory;
 #[cfg(part_card)]
 mod card_runs;
-#[cfg(any(part_leaves, part_frames, part_card, part_swap, part_tool))]
+#[cfg(any(part_primitives, part_frames, part_card, part_swap, part_tool))]
 mod ffi;
 #[cfg(part_swap)]
 mod ffi_swap;
@@ -60,8 +60,8 @@ mod figures_card;
 mod figures_receiver;
 #[cfg(part_frames)]
 mod frames;
-#[cfg(part_leaves)]
-mod leaves;
+#[cfg(part_primitives)]
+mod primitives;
 #[cfg(part_card)]
 mod random_damage;
 #[cfg(part_swap)]
@@ -125,7 +125,7 @@ fn main() -> ExitCode {
         }
     }
     let Some(options) = options() else {
-        eprintln!("usage: compare PART.. [--cases N] [--seed S], with N at least 1 and PART one of vectors, leaves, frames, card, swap, tool, des_vectors, framelist, cardlog, swaplist; or compare print PROGRAM, compare write PROGRAM");
+        eprintln!("usage: compare PART.. [--cases N] [--seed S], with N at least 1 and PART one of vectors, primitives, frames, card, swap, tool, des_vectors, framelist, cardlog, swaplist; or compare print PROGRAM, compare write PROGRAM");
         return ExitCode::from(2);
     };
     println!("seed {}", options.seed);
@@ -133,8 +133,8 @@ fn main() -> ExitCode {
         let mut rng = Rng::new(options.seed);
         let agrees = match &part[..] {
             "vectors" => self_tests(&mut rng, options.cases.unwrap_or(2_000)),
-            #[cfg(part_leaves)]
-            "leaves" => compare_leaves(&mut rng, options.cases.unwrap_or(100_000)),
+            #[cfg(part_primitives)]
+            "primitives" => compare_primitives(&mut rng, options.cases.unwrap_or(100_000)),
             #[cfg(part_figures)]
             "figures" => {
                 figures::print(&mut rng);
@@ -205,11 +205,11 @@ fn self_tests(rng: &mut Rng, cases: usize) -> bool {
         && tell_with("lossy wire, requests", "ended well", wire::tool_and_card(rng, cases, Some(150)))
 }
 
-#[cfg(part_leaves)]
-fn compare_leaves(rng: &mut Rng, cases: usize) -> bool {
-    tell("leaves crc", leaves::crc(rng, cases))
-        && tell("leaves des, both ways", leaves::des(rng, cases))
-        && tell("leaves label", leaves::labels(rng, cases))
+#[cfg(part_primitives)]
+fn compare_primitives(rng: &mut Rng, cases: usize) -> bool {
+    tell("primitives crc", primitives::crc(rng, cases))
+        && tell("primitives des, both ways", primitives::des(rng, cases))
+        && tell("primitives label", primitives::labels(rng, cases))
 }
 
 #[cfg(part_frames)]

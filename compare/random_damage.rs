@@ -49,9 +49,9 @@ pub fn damage(rng: &mut Rng, memory: &mut [u8]) {
     }
 }
 
-/// Fills every free octet anew.
+/// Fills every free octet, and every free bit of the others, anew.
 pub fn damage_free(rng: &mut Rng, memory: &mut [u8]) {
-    for place in free(memory) {
-        memory[place] = rng.octet();
+    for (place, bits) in free(memory) {
+        memory[place] = memory[place] & !bits | rng.octet() & bits;
     }
 }

@@ -1,15 +1,15 @@
-/* How many octets of stack each call of the card, the tool and the swap file needs, measured: the stack below the call is painted, and the deepest
+/* How many octets of stack each call of the card, the tool, the swap file and the primitives needs, measured: the stack below the call is painted, and the deepest
  * octet that the call wrote is looked for. The card has 32 labels of 116 octets; every command that it takes is sent, good and bad. The tool makes
  * every request to it, with the most DATA. 256 is printed for 256 and less. The exit status is 1 where a call needs more than its header says.
  *
  * With -z now the loader looks for memcpy before the first call, and not on the stack that is measured:
  *
  *   cc -pthread -Wl,-z,now -Iinclude examples/call_stack.c -Ltarget/staticlib -ltool_exports -lswap_exports -lcard_exports -lframe_exports \
- *      -lleaf_exports -o target/call_stack
+ *      -lprimitive_exports -o target/call_stack
  */
 #include "propolisk_card.h"
 #include "propolisk_frame.h"
-#include "propolisk_leaf.h"
+#include "propolisk_primitives.h"
 #include "propolisk_swap.h"
 #include "propolisk_tool.h"
 
@@ -42,7 +42,12 @@ enum { STACK = 1 << 20, PAINT = 0xA5, NOT_PAINTED = 256, TAB = 31 };
     CALL(swap_next, PROPOLISK_SWAP_STACK)                                                                                                  \
     CALL(swap_next_for, PROPOLISK_SWAP_STACK)                                                                                              \
     CALL(swap_write, PROPOLISK_SWAP_STACK)                                                                                                 \
-    CALL(swap_add, PROPOLISK_SWAP_STACK)
+    CALL(swap_add, PROPOLISK_SWAP_STACK)                                                                                                   \
+    CALL(crc_key, PROPOLISK_PRIMITIVES_STACK)                                                                                              \
+    CALL(crc_divisible, PROPOLISK_PRIMITIVES_STACK)                                                                                        \
+    CALL(des_encipher, PROPOLISK_PRIMITIVES_STACK)                                                                                         \
+    CALL(des_decipher, PROPOLISK_PRIMITIVES_STACK)                                                                                         \
+    CALL(label_fit, PROPOLISK_PRIMITIVES_STACK)
 #define NAME(name, most) name,
 #define ROW(name, most) {"propolisk_" #name, most, 0},
 
@@ -55,7 +60,7 @@ static struct {
 static uint8_t stack[STACK] __attribute__((aligned(4096)));
 static uint8_t memory[PROPOLISK_CARD_MEMORY], entries[PROPOLISK_CARD_ENTRIES], reply[PROPOLISK_CARD_REPLY], data[PROPOLISK_CARD_DATA];
 static uint8_t tool[PROPOLISK_TOOL_MEMORY], frame[128], reading[116], wake, ended;
-static uint8_t heads[40960], contents[65536], file[65536], ads[6], tab, kind;
+static uint8_t heads[40960], contents[65536], file[65536], ads[6], tab, kind, block[8];
 static const uint8_t address[6] = {0x11, 0x22, 0x33, 0x44, 0x55, 0x66}, broadcast[6];
 static const uint8_t key[8] = {0x13, 0x34, 0x57, 0x79, 0x9B, 0xBC, 0xDF, 0xF1}, number[8], none[8];
 static uint8_t octet;
@@ -95,11 +100,22 @@ static void make_swap(int call)
 {
     switch (call) {
     case swap_verdict: propolisk_swap_verdict(file, file_length, &length, &offset); break;
-    case swap_start: propolisk_swap_start(file, file_length, &at, &left); break;
+    case swap_start: propolisk_swap_start(file, file_length, &at, &left, &offset); break;
     case swap_next: propolisk_swap_next(file, file_length, &at, &left, &found, ads, &tab, &kind, &from, &length); break;
     case swap_next_for: propolisk_swap_next_for(file, file_length, address, &at, &left, &found, ads, &tab, &kind, &from, &length); break;
     case swap_write: propolisk_swap_write(heads, 10 * records, contents, contents_length, file, sizeof file, &file_length, &offset); break;
     default: propolisk_swap_add(heads, contents, &records, &contents_length, address, tab, 1, data, sizeof data, &offset);
+    }
+}
+
+static void make_primitive(int call)
+{
+    switch (call) {
+    case crc_key: propolisk_crc_key(data, sizeof data); break;
+    case crc_divisible: propolisk_crc_divisible(data, sizeof data); break;
+    case des_encipher: propolisk_des_encipher(key, block); break;
+    case des_decipher: propolisk_des_decipher(key, block); break;
+    default: propolisk_label_fit(data, sizeof data, 116, 116, &length, &offset);
     }
 }
 
@@ -109,8 +125,10 @@ static __attribute__((noinline)) void make(int call)
         make_card(call);
     else if (call <= tool_session_end)
         make_tool(call);
-    else
+    else if (call <= swap_add)
         make_swap(call);
+    else
+        make_primitive(call);
 }
 
 static __attribute__((noinline)) void measure(int call)
@@ -205,6 +223,12 @@ static void measure_swap(void)
     measure(swap_next_for);
 }
 
+static void measure_primitives(void)
+{
+    for (int call = crc_key; call <= label_fit; call++)
+        measure(call);
+}
+
 static void *run(void *unused)
 {
     memset(data, 'e', sizeof data);
@@ -216,6 +240,7 @@ static void *run(void *unused)
     measure_card();
     measure_tool();
     measure_swap();
+    measure_primitives();
     return unused;
 }
 

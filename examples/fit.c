@@ -1,5 +1,5 @@
 /* Cuts a label to the room of a record: 14 octets and 20 characters. The 14th octet is the first half of an é. */
-#include <propolisk_leaf.h>
+#include <propolisk_primitives.h>
 #include <stdio.h>
 #include <string.h>
 

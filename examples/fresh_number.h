@@ -3,7 +3,7 @@
 #ifndef FRESH_NUMBER_H
 #define FRESH_NUMBER_H
 
-#include "propolisk_leaf.h"
+#include "propolisk_primitives.h"
 
 static void fresh_number(uint8_t number[8])
 {

@@ -2,12 +2,12 @@
  * cards stand at the other end of the wire, in the same program. The wire bends a bit of one reply and loses another; a request that nobody
  * answered is made again, and every record arrives. It prints each frame, and the number that each request ends with.
  *
- *   for archive in tool_exports swap_exports card_exports leaf_exports; do rt staticlib $archive; done
- *   cc -Iinclude examples/tool_host.c -Ltarget/staticlib -ltool_exports -lswap_exports -lcard_exports -lleaf_exports -o target/tool_host
+ *   for archive in tool_exports swap_exports card_exports primitive_exports; do rt staticlib $archive; done
+ *   cc -Iinclude examples/tool_host.c -Ltarget/staticlib -ltool_exports -lswap_exports -lcard_exports -lprimitive_exports -o target/tool_host
  */
 #include "fresh_number.h"
 #include "propolisk_card.h"
-#include "propolisk_leaf.h"
+#include "propolisk_primitives.h"
 #include "propolisk_swap.h"
 #include "propolisk_tool.h"
 
@@ -198,6 +198,12 @@ static void collect(uint8_t tab, uint8_t kind)
     printf("  TAB %02X is %s the list\n", tab, number == 0 ? "in" : "NOT in");
 }
 
+static void give_up(uint8_t number, size_t offset)
+{
+    printf("the swap file is refused: %u at %zu\n", number, offset);
+    exit(1);
+}
+
 static void verdict(size_t length)
 {
     size_t count = 0, offset = 0;
@@ -212,10 +218,8 @@ static void write_file(void)
 {
     size_t offset = 0;
     uint8_t number = propolisk_swap_write(heads, 10 * records, contents, contents_count, file, 65536, &file_length, &offset);
-    if (number != 0) {
-        printf("the swap file is refused: %u at %zu\n", number, offset);
-        exit(1);
-    }
+    if (number != 0)
+        give_up(number, offset);
     print_octets("swap file ", file, file_length);
     verdict(file_length);
     verdict(file_length - 1);
@@ -233,19 +237,17 @@ static void program_fitted(uint8_t tab, uint8_t kind, const uint8_t *octets, siz
     printf("  TAB %02X is %s the new card\n", tab, number == 0 ? "on" : "NOT on");
 }
 
+/* Starting judges the file; on a file that it accepts, no record is refused. */
 static void program_from_file(void)
 {
-    size_t at, left, from, length;
-    bool found = true;
-    uint8_t ads[6], tab, kind, number = 0;
-    propolisk_swap_start(file, file_length, &at, &left);
-    while (number == 0 && found) {
-        number = propolisk_swap_next_for(file, file_length, address, &at, &left, &found, ads, &tab, &kind, &from, &length);
-        if (number == 0 && found)
-            program_fitted(tab, kind, file + from, length);
-    }
+    size_t at, left, offset, from, length;
+    bool found = false;
+    uint8_t ads[6], tab, kind;
+    uint8_t number = propolisk_swap_start(file, file_length, &at, &left, &offset);
     if (number != 0)
-        printf("the swap file is refused: %u\n", number);
+        give_up(number, offset);
+    while (propolisk_swap_next_for(file, file_length, address, &at, &left, &found, ads, &tab, &kind, &from, &length) == 0 && found)
+        program_fitted(tab, kind, file + from, length);
 }
 
 static void put_entry(uint8_t *entry, uint8_t tab, uint8_t kind, uint8_t octets, uint8_t characters, const char *held)

@@ -1,5 +1,5 @@
 // Records that were read, for the swap file's writer.
-use crate::line::print;
+use printing::print;
 use swap::Kind;
 use swap::Records;
 use swap_list::Added;

@@ -2,11 +2,6 @@
 use crate::exchange::Bus;
 use crate::exchange::exchange;
 use crate::gather::Gathered;
-use crate::line::print;
-use crate::line::print_number;
-use crate::line::print_octets;
-use crate::listing::count_of;
-use crate::listing::print_record;
 use crate::primary::Primary;
 use crate::primary::Stage;
 use crate::stations::FLAT;
@@ -15,10 +10,15 @@ use crate::stations::address;
 use crate::stations::is_label;
 use crate::stations::new_room;
 use crate::wire::Damage;
+use printing::print;
+use printing::print_number;
+use printing::print_octets;
+use printing::print_record;
 use swap::Entry;
 use swap::Kind;
 use swap::Next;
-use swap_station::next_for;
+use swap::Started;
+use swap::next_for;
 use tool::Contents;
 
 // An index that no reading has.
@@ -92,8 +92,12 @@ fn print_read(tab: u8, contents: Contents) {
 // Programs the flat's new card from the file's records for it, one after the other. The holder's label is tried with a wrong key first.
 pub(crate) fn program_all(bus: Bus, file: &[u8]) -> Bus {
     let mut now = bus;
-    let mut cursor = swap::cursor::start(file);
-    let mut left = count_of(file);
+    let Started::First(first) = swap::cursor::start(file) else {
+        return now;
+    };
+    let mut cursor = first;
+    let records = first.left;
+    let mut left = records.0;
     while 0 < left {
         let next = next_for(cursor, file, FLAT);
         let Next::Record(entry, after) = next else {
@@ -160,9 +164,16 @@ fn print_room(tab: u8) {
 
 // The flat's records of two files side by side.
 pub(crate) fn compare_files(old: &[u8], new: &[u8]) {
-    let mut old_cursor = swap::cursor::start(old);
-    let mut new_cursor = swap::cursor::start(new);
-    let mut left = count_of(old);
+    let Started::First(old_first) = swap::cursor::start(old) else {
+        return;
+    };
+    let Started::First(new_first) = swap::cursor::start(new) else {
+        return;
+    };
+    let mut old_cursor = old_first;
+    let mut new_cursor = new_first;
+    let records = old_first.left;
+    let mut left = records.0;
     while 0 < left {
         let old_next = next_for(old_cursor, old, FLAT);
         let Next::Record(old_entry, old_after) = old_next else {

@@ -2,10 +2,7 @@
 mod exchange;
 mod gather;
 mod hours;
-mod line;
-mod listing;
 mod primary;
-mod refusals;
 mod stations;
 mod wire;
 
@@ -15,7 +12,7 @@ use gather::File;
 use hours::Readings;
 use hours::UNDAMAGED;
 use hours::read_all;
-use line::print;
+use printing::print;
 use tool::Tool;
 
 fn main() {
@@ -53,7 +50,7 @@ fn ten(bus: Bus, file: File) -> Bus {
     print(b"\n10:00 the fitter programs the new card from the swap file\n");
     let octets = file.octets;
     let written = octets::part(&octets, 0, file.length);
-    listing::print_file(written);
+    printing::print_file(written);
     hours::program_all(swapped(bus), written)
 }
 
@@ -102,6 +99,6 @@ fn night(old: File, new: File) {
     let new_octets = new.octets;
     let morning = octets::part(&old_octets, 0, old.length);
     let noon = octets::part(&new_octets, 0, new.length);
-    listing::print_file(noon);
+    printing::print_file(noon);
     hours::compare_files(morning, noon);
 }

@@ -1,10 +1,10 @@
 // The tool at its end of the wire: what it asks, and what it hears.
-use crate::line::print;
-use crate::refusals::print_tool;
 use crate::wire::Sent;
 use crate::wire::TOOL;
 use crate::wire::silence;
 use numbers::Octets;
+use printing::print;
+use printing::print_tool;
 use tool::Answer;
 use tool::Contents;
 use tool::Requested;

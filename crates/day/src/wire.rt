@@ -1,11 +1,11 @@
 // The wire: what one station sends, all others hear, octet by octet.
 ghost use Prim.Native.Nat.{_<_};
-use crate::line::print;
-use crate::line::print_frame;
-use crate::line::print_number;
-use crate::line::print_octets;
-use crate::refusals::print_card;
 use card::Card;
+use printing::print;
+use printing::print_card;
+use printing::print_frame;
+use printing::print_number;
+use printing::print_octets;
 
 // The number that the host of a card lends with each octet. It is fixed, so that every day prints the same; a real host lends a fresh one that nobody can guess.
 const NA2: [u8; 8] = [0xFE, 0xDC, 0xBA, 0x98, 0x76, 0x54, 0x32, 0x10];
@@ -127,7 +127,8 @@ fn card_hears(cards: Cards, place: usize, octet: u8) -> Cards
 // A card hears an octet, and its host says which number it got.
 fn hears(card: Card, octet: u8) -> Heard {
     let mut buffer = [0u8; 128];
-    let address = card.address;
+    let identity = card.identity;
+    let address = identity.address;
     let stepped = card.octet(octet, &NA2, &mut buffer);
     let next = stepped.card;
     let answer = stepped.answer;

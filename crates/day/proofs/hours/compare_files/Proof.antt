@@ -12,11 +12,26 @@ abbrev μ-loop : tie.MeasureT-loop
 start-requires : tie.Need-start-requires Inv-loop μ-loop
 start-requires c κs = search needs
 
+enum-known-old-first : tie.Need-enum-known-old-first Inv-loop μ-loop
+enum-known-old-first c = search needs
+
+enum-told : tie.Need-enum-told Inv-loop μ-loop
+enum-told c = search needs
+
+returns : tie.Need-returns Inv-loop μ-loop
+returns c = search needs
+
 start-requires-2 : tie.Need-start-requires-2 Inv-loop μ-loop
 start-requires-2 c κs = search needs
 
-count-of-requires : tie.Need-count-of-requires Inv-loop μ-loop
-count-of-requires c κs = search needs
+enum-known-new-first : tie.Need-enum-known-new-first Inv-loop μ-loop
+enum-known-new-first c = search needs
+
+enum-told-2 : tie.Need-enum-told-2 Inv-loop μ-loop
+enum-told-2 c = search needs
+
+returns-2 : tie.Need-returns-2 Inv-loop μ-loop
+returns-2 c = search needs
 
 loop-holds : tie.Need-loop-holds Inv-loop μ-loop
 loop-holds c = search needs
@@ -27,8 +42,8 @@ next-for-requires c κs = search needs
 enum-known-old-next : tie.Need-enum-known-old-next Inv-loop μ-loop
 enum-known-old-next c = search needs
 
-returns : tie.Need-returns Inv-loop μ-loop
-returns c = search needs
+returns-3 : tie.Need-returns-3 Inv-loop μ-loop
+returns-3 c = search needs
 
 next-for-requires-2 : tie.Need-next-for-requires-2 Inv-loop μ-loop
 next-for-requires-2 c κs = search needs
@@ -36,8 +51,8 @@ next-for-requires-2 c κs = search needs
 enum-known-new-next : tie.Need-enum-known-new-next Inv-loop μ-loop
 enum-known-new-next c = search needs
 
-returns-2 : tie.Need-returns-2 Inv-loop μ-loop
-returns-2 c = search needs
+returns-4 : tie.Need-returns-4 Inv-loop μ-loop
+returns-4 c = search needs
 
 print-beside-requires : tie.Need-print-beside-requires Inv-loop μ-loop
 print-beside-requires c κs = search needs
@@ -51,8 +66,8 @@ loop-less c = search needs
 loop-again : tie.Need-loop-again Inv-loop μ-loop
 loop-again c = search needs
 
-returns-3 : tie.Need-returns-3 Inv-loop μ-loop
-returns-3 c = search needs
+returns-5 : tie.Need-returns-5 Inv-loop μ-loop
+returns-5 c = search needs
 
 pub compare-files-spec : {M : Type 1} → statement M
 compare-files-spec =
@@ -61,17 +76,22 @@ compare-files-spec =
     Inv-loop
     μ-loop
     start-requires
+    enum-known-old-first
+    enum-told
+    returns
     start-requires-2
-    count-of-requires
+    enum-known-new-first
+    enum-told-2
+    returns-2
     loop-holds
     next-for-requires
     enum-known-old-next
-    returns
+    returns-3
     next-for-requires-2
     enum-known-new-next
-    returns-2
+    returns-4
     print-beside-requires
     sub-left
     loop-less
     loop-again
-    returns-3)
+    returns-5)

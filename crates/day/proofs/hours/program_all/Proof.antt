@@ -12,8 +12,14 @@ abbrev μ-loop : tie.MeasureT-loop
 start-requires : tie.Need-start-requires Inv-loop μ-loop
 start-requires c κs = search needs
 
-count-of-requires : tie.Need-count-of-requires Inv-loop μ-loop
-count-of-requires c κs = search needs
+enum-known-first : tie.Need-enum-known-first Inv-loop μ-loop
+enum-known-first c = search needs
+
+enum-told : tie.Need-enum-told Inv-loop μ-loop
+enum-told c = search needs
+
+returns : tie.Need-returns Inv-loop μ-loop
+returns c = search needs
 
 loop-holds : tie.Need-loop-holds Inv-loop μ-loop
 loop-holds c = search needs
@@ -24,8 +30,8 @@ next-for-requires c κs = search needs
 enum-known-next : tie.Need-enum-known-next Inv-loop μ-loop
 enum-known-next c = search needs
 
-returns : tie.Need-returns Inv-loop μ-loop
-returns c = search needs
+returns-2 : tie.Need-returns-2 Inv-loop μ-loop
+returns-2 c = search needs
 
 fitted-requires : tie.Need-fitted-requires Inv-loop μ-loop
 fitted-requires c κs = search needs
@@ -42,8 +48,8 @@ loop-less c = search needs
 loop-again : tie.Need-loop-again Inv-loop μ-loop
 loop-again c = search needs
 
-returns-2 : tie.Need-returns-2 Inv-loop μ-loop
-returns-2 c = search needs
+returns-3 : tie.Need-returns-3 Inv-loop μ-loop
+returns-3 c = search needs
 
 pub program-all-spec : {M : Type 1} → statement M
 program-all-spec =
@@ -52,14 +58,16 @@ program-all-spec =
     Inv-loop
     μ-loop
     start-requires
-    count-of-requires
+    enum-known-first
+    enum-told
+    returns
     loop-holds
     next-for-requires
     enum-known-next
-    returns
+    returns-2
     fitted-requires
     program-entry-requires
     sub-left
     loop-less
     loop-again
-    returns-2)
+    returns-3)

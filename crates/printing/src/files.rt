@@ -7,18 +7,22 @@ use label::Text;
 use swap::Entry;
 use swap::Kind;
 use swap::Next;
-use swap::Verdict;
+use swap::Started;
 
 // A swap file's octets, and a line for each of its records.
-pub(crate) fn print_file(file: &[u8]) {
+pub fn print_file(file: &[u8]) {
     print_number(b"file  octets ", file.len());
     print_wire_octets(file);
     print_entries(file);
 }
 
 fn print_entries(file: &[u8]) {
-    let mut cursor = swap::cursor::start(file);
-    let mut left = count_of(file);
+    let Started::First(first) = swap::cursor::start(file) else {
+        return;
+    };
+    let mut cursor = first;
+    let records = first.left;
+    let mut left = records.0;
     while 0 < left {
         let next = cursor.next(file);
         let Next::Record(entry, after) = next else {
@@ -27,15 +31,6 @@ fn print_entries(file: &[u8]) {
         print_entry(file, entry);
         cursor = after;
         left -= 1;
-    }
-}
-
-// How many records a file has; none where it is faulty.
-pub(crate) fn count_of(file: &[u8]) -> usize {
-    let verdict = swap::judge(file);
-    match verdict {
-        Verdict::Accepted(records) => records.0,
-        Verdict::Fault(_) => 0,
     }
 }
 
@@ -48,7 +43,7 @@ fn print_entry(file: &[u8], entry: Entry) {
 }
 
 // A record's kind, its counts, and what it holds, between two texts.
-pub(crate) fn print_record(before: &[u8], kind: Kind, data: &[u8], after: &[u8]) {
+pub fn print_record(before: &[u8], kind: Kind, data: &[u8], after: &[u8]) {
     print(before);
     match kind {
         Kind::Raw => print_raw(data),

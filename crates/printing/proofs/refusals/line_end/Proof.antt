@@ -2,8 +2,8 @@
 use Prim.Native.Nat.{_≤_, _-_}
 use lib.ListN.{length}
 use borrow.Author.Needs.{needs}
-use Rattle.day.proofs.refusals.line_end.Statement.{statement}
-use Rattle.day.proofs.refusals.line_end.Tie as tie
+use Rattle.printing.proofs.refusals.line_end.Statement.{statement}
+use Rattle.printing.proofs.refusals.line_end.Tie as tie
 
 abbrev Inv-loop : tie.InvT-loop
 Inv-loop lines count left₀ i₀ left i = i ≤ length lines

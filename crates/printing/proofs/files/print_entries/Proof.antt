@@ -1,7 +1,7 @@
 -- `print_entries` is safe and ends: the records that are left fall by one a turn.
 use borrow.Author.Needs.{needs}
-use Rattle.day.proofs.listing.print_entries.Statement.{statement}
-use Rattle.day.proofs.listing.print_entries.Tie as tie
+use Rattle.printing.proofs.files.print_entries.Statement.{statement}
+use Rattle.printing.proofs.files.print_entries.Tie as tie
 
 abbrev Inv-loop : tie.InvT-loop
 Inv-loop file cursor₀ left₀ cursor left = Unit {0}
@@ -12,8 +12,14 @@ abbrev μ-loop : tie.MeasureT-loop
 start-requires : tie.Need-start-requires Inv-loop μ-loop
 start-requires c κs = search needs
 
-count-of-requires : tie.Need-count-of-requires Inv-loop μ-loop
-count-of-requires c κs = search needs
+enum-known-first : tie.Need-enum-known-first Inv-loop μ-loop
+enum-known-first c = search needs
+
+enum-told : tie.Need-enum-told Inv-loop μ-loop
+enum-told c = search needs
+
+returns : tie.Need-returns Inv-loop μ-loop
+returns c = search needs
 
 loop-holds : tie.Need-loop-holds Inv-loop μ-loop
 loop-holds c = search needs
@@ -24,8 +30,8 @@ next-requires c κs = search needs
 enum-known-next : tie.Need-enum-known-next Inv-loop μ-loop
 enum-known-next c = search needs
 
-returns : tie.Need-returns Inv-loop μ-loop
-returns c = search needs
+returns-2 : tie.Need-returns-2 Inv-loop μ-loop
+returns-2 c = search needs
 
 print-entry-requires : tie.Need-print-entry-requires Inv-loop μ-loop
 print-entry-requires c κs = search needs
@@ -39,8 +45,8 @@ loop-less c = search needs
 loop-again : tie.Need-loop-again Inv-loop μ-loop
 loop-again c = search needs
 
-returns-2 : tie.Need-returns-2 Inv-loop μ-loop
-returns-2 c = search needs
+returns-3 : tie.Need-returns-3 Inv-loop μ-loop
+returns-3 c = search needs
 
 pub print-entries-spec : {M : Type 1} → statement M
 print-entries-spec =
@@ -49,13 +55,15 @@ print-entries-spec =
     Inv-loop
     μ-loop
     start-requires
-    count-of-requires
+    enum-known-first
+    enum-told
+    returns
     loop-holds
     next-requires
     enum-known-next
-    returns
+    returns-2
     print-entry-requires
     sub-left
     loop-less
     loop-again
-    returns-2)
+    returns-3)

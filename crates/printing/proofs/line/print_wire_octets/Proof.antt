@@ -2,8 +2,8 @@
 use Prim.Native.Nat.{_-_}
 use lib.ListN.{length}
 use borrow.Author.Needs.{needs}
-use Rattle.day.proofs.line.print_wire_octets.Statement.{statement}
-use Rattle.day.proofs.line.print_wire_octets.Tie as tie
+use Rattle.printing.proofs.line.print_wire_octets.Statement.{statement}
+use Rattle.printing.proofs.line.print_wire_octets.Tie as tie
 
 abbrev Inv-loop : tie.InvT-loop
 Inv-loop octets i₀ t4 t5 i = Unit {0}

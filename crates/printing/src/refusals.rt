@@ -6,7 +6,7 @@ use crate::line::print_number;
 use crate::line::print_octets;
 
 // The tool's host gets a number; nothing is printed where there is none.
-pub(crate) fn print_tool(number: u8) {
+pub fn print_tool(number: u8) {
     if number != 0 {
         print(b"tool ");
         print_refused(number);
@@ -14,7 +14,7 @@ pub(crate) fn print_tool(number: u8) {
 }
 
 // The same for the host of the card with this address.
-pub(crate) fn print_card(ads: [u8; 6], number: u8) {
+pub fn print_card(ads: [u8; 6], number: u8) {
     if number != 0 {
         print_octets(b"card  ", &ads);
         print_refused(number);
