@@ -7,6 +7,7 @@ use lib.ListN.{length}
 use Rattle.frame.specs.declared.codes.Command.{Command}
 use Rattle.frame.specs.declared.codes.Command.the-variants.{Rec}
 use Rattle.numbers.specs.Answer.{given}
+use Rattle.frame.specs.Sizes.{mostProgrammed}
 use Rattle.frame.specs.Checks.{inspected}
 use Rattle.frame.specs.Layout.{layoutOf, within}
 use Rattle.frame.specs.Content.{dataOf}
@@ -22,7 +23,7 @@ pub good-data : (k : Command) (s : List ℕ) → inspected s ≡ given k → wit
 good-data k s e = data-within k s (inspected-good s k e)
 
 -- a REC has at most 100 octets
-pub rec-data : (n : ℕ) → within (layoutOf Rec) n ≡ true → n ≤ 100
+pub rec-data : (n : ℕ) → within (layoutOf Rec) n ≡ true → n ≤ mostProgrammed
 unfolding layoutOf
 rec-data n h = within-bounds (layoutOf Rec) n h .1
 

@@ -8,6 +8,7 @@ use borrow.Author.Tests.{eq-eqb, le-leb}
 use Rattle.octets.proofs.Impossible.{impossible}
 use Rattle.frame.specs.declared.codes.Command.{Command}
 use Rattle.numbers.specs.Answer.{given}
+use Rattle.frame.specs.Sizes.{longestFrame, numberWidth}
 use Rattle.frame.specs.Checks.{inspected}
 use Rattle.frame.specs.Content.{fieldsOf, dataOf}
 use Rattle.receiver.specs.Receiving.{Awaiting, Outcome, Silent, Complete, Course, onOctet, onOctets, onGap}
@@ -72,7 +73,7 @@ heard-from b c e loan k f r x =
 module _ (loan : Loan) (u : Usable loan) (c : Card) (h : Whole c) (o : ℕ) where
   octet-heard : afterOctet c o loan ≡ heard c o loan
   unfolding afterOctet
-  octet-heard = rw (eq-eqb (length (loan .na2)) 8 (u .eight), le-leb 128 (loan .reply) (u .enough), sound-test c (h .sound))
+  octet-heard = rw (eq-eqb (length (loan .na2)) numberWidth (u .eight), le-leb longestFrame (loan .reply) (u .enough), sound-test c (h .sound))
 
   octet-whole : Whole (afterOctet c o loan .card)
   unfolding after

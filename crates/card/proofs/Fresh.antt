@@ -8,6 +8,7 @@ use lib.Dec.{eqb}
 use lib.ListN.{length}
 use Rattle.octets.specs.Part.{same}
 use Rattle.numbers.specs.Table.{wrongAddress, brokenRule, wrongLength}
+use Rattle.frame.specs.Sizes.{addressWidth, numberWidth}
 use Rattle.frame.specs.Addresses.{broadcast}
 use Rattle.records.specs.declared.Records.{Records}
 use Rattle.records.specs.Finding.{used}
@@ -39,7 +40,7 @@ module _ (address key : List ℕ) (s : Records) where
 
   pub setup-whole : Whole (afterSetup address key s .card)
   unfolding afterSetup
-  setup-whole = go (eqb (length address) 6 && eqb (length key) 8)
+  setup-whole = go (eqb (length address) addressWidth && eqb (length key) numberWidth)
     where
       go : (b : Bool) → Whole (cond b (admitted address key s) (refusedSetup wrongLength) .card)
       go true = admitted-whole

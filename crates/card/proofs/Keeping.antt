@@ -12,6 +12,7 @@ use Rattle.numbers.specs.Answer.{Answer, given, refused, refusedAt, numberOf}
 use Rattle.frame.specs.declared.codes.Command.{Command}
 use Rattle.frame.specs.declared.codes.Command.the-variants.{Rec}
 use Rattle.frame.specs.declared.content.Fields.{Fields}
+use Rattle.frame.specs.Sizes.{mostProgrammed}
 use Rattle.frame.specs.Layout.{layoutOf, within}
 use Rattle.frame.specs.Content.{fieldsOf, dataOf}
 use Rattle.records.specs.declared.Cause.{Cause}
@@ -22,7 +23,7 @@ use Rattle.records.specs.Writing.{write}
 use Rattle.records.proofs.Refusals.{readable-bounded, number-bounded}
 use Rattle.records.proofs.Writes.{write-sound, write-refused, write-number}
 use Rattle.receiver.specs.Receiving.{Reception, Awaiting, Skipping, Partial, Outcome, Silent, Dropped, Complete, Step, to, onOctet, onGap}
-use Rattle.receiver.specs.Receiver.{receptionOf}
+use Rattle.receiver.specs.Receiver.{mostHeld, receptionOf}
 use Rattle.receiver.proofs.Soundness.{SoundReception, holding-sound, holding-long, reception-sound}
 use Rattle.receiver.proofs.Follows.{Numbered, octet-numbered, octet-keeps, gap-keeps}
 use Rattle.receiver.proofs.Arrival.{completes}
@@ -43,7 +44,7 @@ use Rattle.card.proofs.Amounts.{good-data, rec-data, taken-data}
 -- A sound card whose receiver has its 127 octets, as its type says.
 pub record Whole (c : Card) : Type 0 where
   pub sound : Sound c
-  pub long : length (c .receiver .octets) ≡ 127
+  pub long : length (c .receiver .octets) ≡ mostHeld
 
 -- All but the receiver is as it was, and so is the wait, but that it may be over.
 pub record Unchanged (c d : Card) : Type 0 where
@@ -140,7 +141,7 @@ module _ (c b : Card) (u : Unchanged c b) (h : Whole b) where
           })
           (records-whole cause t d)
 
-  waiting-whole : (loan : Loan) (f : Fields) (d : List ℕ) → length d ≤ 100 → Whole (waitingFor b loan f d)
+  waiting-whole : (loan : Loan) (f : Fields) (d : List ℕ) → length d ≤ mostProgrammed → Whole (waitingFor b loan f d)
   waiting-whole loan f d short =
       record {
         sound = record { address = h .sound .address; fits = short; receiver = h .sound .receiver; records = h .sound .records };

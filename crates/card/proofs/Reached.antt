@@ -10,6 +10,7 @@ use Rattle.numbers.specs.Answer.{Answer, given, refused, refusedAt}
 use Rattle.frame.specs.declared.codes.Command.{Command}
 use Rattle.frame.specs.declared.codes.Command.the-variants.{Rec}
 use Rattle.frame.specs.declared.content.Fields.{Fields}
+use Rattle.frame.specs.Sizes.{longestFrame, numberWidth, mostProgrammed}
 use Rattle.frame.specs.Layout.{layoutOf, within}
 use Rattle.frame.specs.Content.{fieldsOf, dataOf}
 use Rattle.records.specs.declared.Cause.{Cause}
@@ -40,7 +41,7 @@ pub data Reached (c : Card) : Card → Type 0 where
   same : Reached c c
   receives : {d : Card} (r : Reception) → SoundReception r → Reached c d → Reached c (withReceiver (holding r (d .receiver)) d)
   ends : {d : Card} → Reached c d → Reached c (idle d)
-  waits : {d : Card} (loan : Loan) (f : Fields) (s : List ℕ) → length (loan .na2) ≡ 8 → length s ≤ 100 → Reached c d → Reached c (waitingFor d loan f s)
+  waits : {d : Card} (loan : Loan) (f : Fields) (s : List ℕ) → length (loan .na2) ≡ numberWidth → length s ≤ mostProgrammed → Reached c d → Reached c (waitingFor d loan f s)
   writes : {d : Card} (cause : Cause) (t : ℕ) (s : List ℕ) → Reached c d → Reached c (withRecords (write (d .records) cause t s .records) d)
 
 module _ (c : Card) where
@@ -64,7 +65,7 @@ module _ (c : Card) where
     aut-reached Idle f = h
     aut-reached (Waiting adp tab n) f = cond-reached (authentic (d .identity .key) (d .exchange .na2) adp f) _ _ (bus-reached (Programmed adp) tab _) (ends h)
 
-    respond-reached : (t : Taken) (loan : Loan) → length (loan .na2) ≡ 8 → (f : Fields) (s : List ℕ) → (t ≡ taking.Rec → within (layoutOf Rec) (length s) ≡ true) → Reached c (respond t d loan f s .card)
+    respond-reached : (t : Taken) (loan : Loan) → length (loan .na2) ≡ numberWidth → (f : Fields) (s : List ℕ) → (t ≡ taking.Rec → within (layoutOf Rec) (length s) ≡ true) → Reached c (respond t d loan f s .card)
     unfolding respond onEnq onRec onAut onTrf onTrb onIb acknowledged
     respond-reached taking.Enq loan e f s w = enq-reached (findReadable (attributesOf (d .records)) (f .tab)) f
     respond-reached taking.Rec loan e f s w = waits loan f s e (rec-data (length s) (w refl)) h
@@ -74,7 +75,7 @@ module _ (c : Card) where
     respond-reached taking.Ib loan e f s w = ends h
     respond-reached taking.None loan e f s w = h
 
-    heard-reached : (o : Outcome) (loan : Loan) → length (loan .na2) ≡ 8 → ((k : Command) (s : List ℕ) → o ≡ Complete k s → within (layoutOf k) (length (dataOf k s)) ≡ true) → Reached c (heardAs o d loan .card)
+    heard-reached : (o : Outcome) (loan : Loan) → length (loan .na2) ≡ numberWidth → ((k : Command) (s : List ℕ) → o ≡ Complete k s → within (layoutOf k) (length (dataOf k s)) ≡ true) → Reached c (heardAs o d loan .card)
     unfolding heardAs onFrame
     heard-reached Silent loan e w = h
     heard-reached (Dropped fault) loan e w = h
@@ -87,14 +88,14 @@ module _ (c : Card) where
     reception : SoundReception (receptionOf (c .receiver))
     reception = reception-sound (c .receiver) (whole .sound .receiver) (whole .long)
 
-    octet-reached : (o : ℕ) (loan : Loan) → length (loan .na2) ≡ 8 → Reached c (heard c o loan .card)
+    octet-reached : (o : ℕ) (loan : Loan) → length (loan .na2) ≡ numberWidth → Reached c (heard c o loan .card)
     unfolding heard
     octet-reached o loan e =
         let s = onOctet o (receptionOf (c .receiver)) in
         heard-reached (afterStep s c) (receives (s .next) (octet-keeps o (receptionOf (c .receiver)) reception) same) (s .outcome) loan e
         (λ k f q. good-data k f (completes (receptionOf (c .receiver)) o k f reception q .good))
 
-    lent-reached : (b : Bool) (o : ℕ) (loan : Loan) (r : Response) → (b ≡ true → length (loan .na2) ≡ 8) → Reached c (r .card) → Reached c (cond b (heard c o loan) r .card)
+    lent-reached : (b : Bool) (o : ℕ) (loan : Loan) (r : Response) → (b ≡ true → length (loan .na2) ≡ numberWidth) → Reached c (r .card) → Reached c (cond b (heard c o loan) r .card)
     lent-reached true o loan r e h = octet-reached o loan (e refl)
     lent-reached false o loan r e h = h
 
@@ -102,7 +103,7 @@ module _ (c : Card) where
     unfolding after afterOctet afterGap afterSessionEnd afterMeterWrite written
     reached (Octet o loan) =
         rw (sound-test c (whole .sound))
-        (lent-reached (usable loan) o loan _ (λ e. eqb-true _ _ (and-eq-true-iff (eqb (length (loan .na2)) 8) (leb 128 (loan .reply)) .0 e .0)) same)
+        (lent-reached (usable loan) o loan _ (λ e. eqb-true _ _ (and-eq-true-iff (eqb (length (loan .na2)) numberWidth) (leb longestFrame (loan .reply)) .0 e .0)) same)
     reached Gap = rw (sound-test c (whole .sound)) (receives (onGap (receptionOf (c .receiver)) .next) (gap-keeps (receptionOf (c .receiver)) reception) same)
     reached SessionEnd = rw (sound-test c (whole .sound)) (ends (receives Awaiting tt same))
     reached (MeterWrite t d) = rw (sound-test c (whole .sound)) (writes Meter t d same)

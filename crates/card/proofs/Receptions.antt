@@ -12,6 +12,7 @@ use Rattle.octets.specs.Splice.{fronted}
 use Rattle.numbers.specs.Table.{brokenRule, wrongLength}
 use Rattle.numbers.specs.Answer.{numberOf}
 use Rattle.frame.specs.declared.codes.Command.{Command}
+use Rattle.frame.specs.Sizes.{longestFrame, numberWidth}
 use Rattle.frame.specs.Content.{fieldsOf, dataOf}
 use Rattle.receiver.proofs.Event.{the-type}
 use Rattle.receiver.specs.declared.Receiver.{Receiver}
@@ -33,7 +34,7 @@ pub receiver-sound : (c : Card) (r : Receiver) → Sound c → ReceiverSound r �
 receiver-sound c r s h = record { address = s .address; fits = s .fits; receiver = h; records = s .records }
 
 -- the octets of a whole frame, as the receiver hands them over
-pub first-octet : (f : List ℕ) → WholeFrame f → getD (fronted f noFrame) 0 0 ≤ 128
+pub first-octet : (f : List ℕ) → WholeFrame f → getD (fronted f noFrame) 0 0 ≤ longestFrame
 unfolding fronted
 first-octet f w =
     let e : getD (fronted f noFrame) 0 0 ≡ getD f 0 0 = List·getD-append f _ 0 0 (omega (arith, w .least)) in
@@ -79,19 +80,19 @@ frame-given c o loan k h a p q =
 
 -- what an octet comes to, by the tests of what is lent (17) and of the card (12)
 module _ (c : Card) (o : ℕ) (loan : Loan) where
-  pub wrong-number : (length (loan .na2) ≡ 8 → ⊥) → afterCardOctet c o loan ≡ telling c wrongLength
+  pub wrong-number : (length (loan .na2) ≡ numberWidth → ⊥) → afterCardOctet c o loan ≡ telling c wrongLength
   unfolding afterCardOctet
-  wrong-number n = rw (ne-eqb (length (loan .na2)) 8 n)
+  wrong-number n = rw (ne-eqb (length (loan .na2)) numberWidth n)
 
-  pub wrong-buffer : length (loan .na2) ≡ 8 → loan .reply < 128 → afterCardOctet c o loan ≡ telling c wrongLength
+  pub wrong-buffer : length (loan .na2) ≡ numberWidth → loan .reply < longestFrame → afterCardOctet c o loan ≡ telling c wrongLength
   unfolding afterCardOctet
-  wrong-buffer e h = rw (eq-eqb (length (loan .na2)) 8 e, lt-leb 128 (loan .reply) h)
+  wrong-buffer e h = rw (eq-eqb (length (loan .na2)) numberWidth e, lt-leb longestFrame (loan .reply) h)
 
-  module _ (e : length (loan .na2) ≡ 8) (h : 128 ≤ loan .reply) (t : Bool) (tested : t ≡ sound c) where
+  module _ (e : length (loan .na2) ≡ numberWidth) (h : longestFrame ≤ loan .reply) (t : Bool) (tested : t ≡ sound c) where
     pub broken-card : not t ≡ true → afterCardOctet c o loan ≡ telling c brokenRule
     unfolding afterCardOctet
-    broken-card b = rw (eq-eqb (length (loan .na2)) 8 e, le-leb 128 (loan .reply) h, ← tested, not-true t b)
+    broken-card b = rw (eq-eqb (length (loan .na2)) numberWidth e, le-leb longestFrame (loan .reply) h, ← tested, not-true t b)
 
     pub octet-made : not t ≡ false → afterCardOctet c o loan ≡ heard c o loan
     unfolding afterCardOctet
-    octet-made b = rw (eq-eqb (length (loan .na2)) 8 e, le-leb 128 (loan .reply) h, ← tested, not-false t b)
+    octet-made b = rw (eq-eqb (length (loan .na2)) numberWidth e, le-leb longestFrame (loan .reply) h, ← tested, not-false t b)

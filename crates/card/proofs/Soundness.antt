@@ -3,6 +3,7 @@ use mathlib.Core.Bool.{true, not, _&&_, and-eq-true-iff}
 use mathlib.Core.Logic.{_↔_}
 use mathlib.Core.Path.{_≡_}
 use borrow.Author.Tests.{le-leb, leb-true, not-true}
+use Rattle.frame.specs.Sizes.{mostProgrammed}
 use Rattle.records.specs.Setup as records
 use Rattle.records.proofs.Soundness as records-laws
 use Rattle.receiver.specs.Receiver as receiver
@@ -20,7 +21,7 @@ module _ (c : Card) where
       let third = and-eq-true-iff (receiver.sound (c .receiver)) (records.sound (c .records)) .0 (second .1) in
       record {
         address = not-true (broadcast (c .identity .address)) (first .0);
-        fits = leb-true (waitingLength (c .exchange .phase)) 100 (second .0);
+        fits = leb-true (waitingLength (c .exchange .phase)) mostProgrammed (second .0);
         receiver = receiver-laws.test-sound (c .receiver) (third .0);
         records = records-laws.sound-means (c .records) .0 (third .1);
       }
@@ -30,7 +31,7 @@ module _ (c : Card) where
   sound-test s =
       rw (
         s .address,
-        le-leb (waitingLength (c .exchange .phase)) 100 (s .fits),
+        le-leb (waitingLength (c .exchange .phase)) mostProgrammed (s .fits),
         receiver-laws.sound-test (c .receiver) (s .receiver),
         records-laws.sound-means (c .records) .1 (s .records),
       )

@@ -5,6 +5,7 @@ use mathlib.Core.List.{List, [], _∷_}
 use lib.Dec.{eqb}
 use lib.ListN.{length, replicate}
 use Rattle.numbers.specs.Table.{wrongAddress, brokenRule, wrongLength}
+use Rattle.frame.specs.Sizes.{addressWidth, numberWidth, mostProgrammed}
 use Rattle.frame.specs.Addresses.{broadcast}
 use Rattle.records.specs.declared.Records.{Records}
 use Rattle.records.specs.Finding.{used}
@@ -20,7 +21,7 @@ fresh address key records =
     record {
       identity = record { address = address; key = key };
       records = records;
-      exchange = record { phase = Idle; content = replicate 100 0; na2 = replicate 8 0 };
+      exchange = record { phase = Idle; content = replicate mostProgrammed 0; na2 = replicate numberWidth 0 };
       receiver = receiver.fresh;
     }
 
@@ -46,4 +47,4 @@ admitted address key records =
 -- 17 is tested first: "a lent key or number not of 8 octets, an address not of 6"
 unfoldable pub afterSetup : List ℕ → List ℕ → Records → Response
 afterSetup address key records =
-    cond (eqb (length address) 6 && eqb (length key) 8) (admitted address key records) (refusedSetup wrongLength)
+    cond (eqb (length address) addressWidth && eqb (length key) numberWidth) (admitted address key records) (refusedSetup wrongLength)

@@ -3,6 +3,7 @@ use Prim.Native.Nat.{ℕ, _≤_}
 use mathlib.Core.Path.{_≡_}
 use mathlib.Core.Bool.{Bool, false, not, _&&_}
 use lib.Dec.{leb}
+use Rattle.frame.specs.Sizes.{mostProgrammed}
 use Rattle.frame.specs.Addresses.{broadcast}
 use Rattle.records.specs.Setup as records
 use Rattle.receiver.specs.Receiver as receiver
@@ -17,7 +18,7 @@ waitingLength (Waiting adp tab n) = n .0
 
 -- no more DATA waits than a REC can have
 abbrev pub fitting : Phase → Bool
-fitting p = leb (waitingLength p) 100
+fitting p = leb (waitingLength p) mostProgrammed
 
 -- "a card .. that breaks a setup rule, holds a length over its limit or a state mark not in use is refused with 12 ..; so is a partly received
 -- frame whose N answer 1 would refuse, or with as many octets as its N states or more." Every state mark of a card by value is in use by its type.
@@ -28,6 +29,6 @@ sound c =
 -- the same rules one by one
 pub record Sound (c : Card) : Type 0 where
   pub address : broadcast (c .identity .address) ≡ false
-  pub fits : waitingLength (c .exchange .phase) ≤ 100
+  pub fits : waitingLength (c .exchange .phase) ≤ mostProgrammed
   pub receiver : receiver.Sound (c .receiver)
   pub records : records.Sound (c .records)

@@ -3,6 +3,7 @@ ghost use mathlib.Core.Path.{_≡_};
 ghost use Prim.Native.Nat.{_≤_};
 ghost use lib.ListN.{length, getD, take};
 ghost use Rattle.numbers.specs.Answer.{given, numberOf};
+ghost use Rattle.frame.specs.Sizes.{longestFrame};
 ghost use Rattle.frame.specs.Checks.{inspected};
 ghost use Rattle.frame.specs.Content.{fieldsOf, dataOf};
 ghost use Rattle.receiver.specs.Receiver.{answerOfEvent};
@@ -18,6 +19,8 @@ use crate::Card;
 use crate::Stepped;
 use crate::frames::Lent;
 use frame::Command;
+use frame::sizes::LONGEST_FRAME;
+use frame::sizes::NUMBER_WIDTH;
 use receiver::Event;
 use records::Cause;
 
@@ -39,10 +42,10 @@ impl Card {
         self,
         lent: Lent,
         command: Command,
-        frame: [u8; 128],
+        frame: [u8; LONGEST_FRAME],
         reply: &mut [u8],
     ) -> Stepped
-        requires { ⌜ (Sound self) × ((getD frame 0 0 ≤ 128) × ((inspected (take (getD frame 0 0) frame) ≡ given command) × (128 ≤ length (now reply)))) ⌝ }
+        requires { ⌜ (Sound self) × ((getD frame 0 0 ≤ longestFrame) × ((inspected (take (getD frame 0 0) frame) ≡ given command) × (longestFrame ≤ length (now reply)))) ⌝ }
         ensures { λ r. ⌜ Gives (onFrame self (lending (lent .na2) (now (reply .entry))) command (fieldsOf command (take (getD frame 0 0) frame)) (dataOf command (take (getD frame 0 0) frame))) (now (reply .entry)) (now (reply .exit)) r ⌝ }
     {
         let end = frame[0] as usize;
@@ -54,7 +57,7 @@ impl Card {
 
     // One octet more for the receiver, and what the card does with a frame that it completes.
     fn heard(self, octet: u8, lent: Lent, reply: &mut [u8]) -> Stepped
-        requires { ⌜ (Sound self) × (128 ≤ length (now reply)) ⌝ }
+        requires { ⌜ (Sound self) × (longestFrame ≤ length (now reply)) ⌝ }
         ensures { λ r. ⌜ Gives (heard self octet (lending (lent .na2) (now (reply .entry)))) (now (reply .entry)) (now (reply .exit)) r ⌝ }
     {
         let receiver = self.receiver;
@@ -72,10 +75,10 @@ impl Card {
     pub fn octet(self, octet: u8, na2: &[u8], reply: &mut [u8]) -> Stepped
         ensures { λ r. ⌜ Gives (afterOctet self octet (lending (now (na2 .entry)) (now (reply .entry)))) (now (reply .entry)) (now (reply .exit)) r ⌝ }
     {
-        if na2.len() != 8 {
+        if na2.len() != NUMBER_WIDTH {
             return self.unreplied(Answer::WrongLength);
         }
-        if reply.len() < 128 {
+        if reply.len() < LONGEST_FRAME {
             return self.unreplied(Answer::WrongLength);
         }
         if !self.sound() {

@@ -4,6 +4,7 @@ ghost use mathlib.Core.Bool.{true};
 ghost use Prim.Native.Nat.{_≤_};
 ghost use lib.ListN.{length};
 ghost use Rattle.frame.specs.declared.codes.Command.the-variants.{Rec};
+ghost use Rattle.frame.specs.Sizes.{longestFrame};
 ghost use Rattle.frame.specs.Layout.{layoutOf, within};
 ghost use Rattle.records.specs.Numbers.{answerNumber as writeNumber};
 ghost use Rattle.card.specs.Numbers.{answerNumber};
@@ -26,17 +27,18 @@ use crate::taking::Taken;
 use crate::taking::taken_for;
 use frame::Command;
 use frame::Fields;
+use frame::sizes::NUMBER_WIDTH;
 use numbers::Octets;
 use records::Cause;
 use records::Found;
 
 // What the host lends with an octet besides the reply buffer: NA2, should the octet complete a REC.
 pub(crate) struct Lent {
-    pub(crate) na2: [u8; 8],
+    pub(crate) na2: [u8; NUMBER_WIDTH],
 }
 
 // Whether an AUT comes from the primary that sent the REC and carries NA2 enciphered under the key.
-fn authentic(key: [u8; 8], na2: [u8; 8], adp: u8, fields: Fields) -> bool
+fn authentic(key: [u8; NUMBER_WIDTH], na2: [u8; NUMBER_WIDTH], adp: u8, fields: Fields) -> bool
     ensures { λ r. ⌜ r ≡ authentic key na2 adp fields ⌝ }
 {
     if adp != fields.adp {
@@ -100,7 +102,7 @@ impl Card {
         fields: Fields,
         reply: &mut [u8],
     ) -> Stepped
-        requires { ⌜ (128 ≤ length (now reply)) × (within (layoutOf granted) 0 ≡ true) ⌝ }
+        requires { ⌜ (longestFrame ≤ length (now reply)) × (within (layoutOf granted) 0 ≡ true) ⌝ }
         ensures { λ r. ⌜ Gives (acknowledged self cause tab (now («data» .entry)) granted fields) (now (reply .entry)) (now (reply .exit)) r ⌝ }
     {
         let done = self.written(cause, tab, data);
@@ -116,7 +118,7 @@ impl Card {
 
     // ENQ: the reply is DAT with the record, or DRJ where it is missing (10) or not readable (11).
     fn on_enq(self, fields: Fields, reply: &mut [u8]) -> Stepped
-        requires { ⌜ (Sound self) × (128 ≤ length (now reply)) ⌝ }
+        requires { ⌜ (Sound self) × (longestFrame ≤ length (now reply)) ⌝ }
         ensures { λ r. ⌜ Gives (onEnq self fields) (now (reply .entry)) (now (reply .exit)) r ⌝ }
     {
         let card = self.idle();
@@ -145,7 +147,7 @@ impl Card {
 
     // REC: the reply is ECH, and the exchange now waits. Its data is not judged yet.
     fn on_rec(self, lent: Lent, fields: Fields, data: &[u8], reply: &mut [u8]) -> Stepped
-        requires { ⌜ (within (layoutOf Rec) (length (now «data»)) ≡ true) × (128 ≤ length (now reply)) ⌝ }
+        requires { ⌜ (within (layoutOf Rec) (length (now «data»)) ≡ true) × (longestFrame ≤ length (now reply)) ⌝ }
         ensures { λ r. ⌜ Gives (onRec self (lending (lent .na2) (now (reply .entry))) fields (now («data» .entry))) (now (reply .entry)) (now (reply .exit)) r ⌝ }
     {
         let exchange = self.exchange;
@@ -163,7 +165,7 @@ impl Card {
 
     // AUT: without a waiting exchange nothing; else the wait is over, and the reply is ARJ (13), or DRJ, or EOS after the write.
     fn on_aut(self, fields: Fields, reply: &mut [u8]) -> Stepped
-        requires { ⌜ (Sound self) × (128 ≤ length (now reply)) ⌝ }
+        requires { ⌜ (Sound self) × (longestFrame ≤ length (now reply)) ⌝ }
         ensures { λ r. ⌜ Gives (onAut self fields) (now (reply .entry)) (now (reply .exit)) r ⌝ }
     {
         let exchange = self.exchange;
@@ -197,7 +199,7 @@ impl Card {
 
     // TRF: the wait is over; the data is written and the reply is TRA, or DRJ.
     fn on_trf(self, fields: Fields, data: &[u8], reply: &mut [u8]) -> Stepped
-        requires { ⌜ 128 ≤ length (now reply) ⌝ }
+        requires { ⌜ longestFrame ≤ length (now reply) ⌝ }
         ensures { λ r. ⌜ Gives (onTrf self fields (now («data» .entry))) (now (reply .entry)) (now (reply .exit)) r ⌝ }
     {
         let card = self.idle();
@@ -228,7 +230,7 @@ impl Card {
         data: &[u8],
         reply: &mut [u8],
     ) -> Stepped
-        requires { ⌜ (Sound self) × ((within (layoutOf command) (length (now «data»)) ≡ true) × (128 ≤ length (now reply))) ⌝ }
+        requires { ⌜ (Sound self) × ((within (layoutOf command) (length (now «data»)) ≡ true) × (longestFrame ≤ length (now reply))) ⌝ }
         ensures { λ r. ⌜ Gives (onFrame self (lending (lent .na2) (now (reply .entry))) command fields (now («data» .entry))) (now (reply .entry)) (now (reply .exit)) r ⌝ }
     {
         let identity = self.identity;

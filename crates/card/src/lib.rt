@@ -12,16 +12,19 @@ mod taking;
 
 use frame::Fault;
 use frame::checks::fault_number;
+use frame::sizes::ADDRESS_WIDTH;
+use frame::sizes::MOST_PROGRAMMED;
+use frame::sizes::NUMBER_WIDTH;
 use numbers::Octets;
 use numbers::table;
 use receiver::Receiver;
 use records::Records;
 use records::Refusal;
 
-// What setup gives a card besides its records.
+// What setup gives a card besides its records; the key is as long as the numbers that it enciphers.
 pub struct Identity {
-    pub address: [u8; 6],
-    pub key: [u8; 8],
+    pub address: [u8; ADDRESS_WIDTH],
+    pub key: [u8; NUMBER_WIDTH],
 }
 
 // Whether an exchange waits: one does after a REC, with that frame's ADP and TAB and as many octets of DATA.
@@ -34,8 +37,8 @@ pub enum Phase {
 // The other octets of content, and all of both while no exchange waits, are free.
 pub struct Exchange {
     pub phase: Phase,
-    pub content: [u8; 100],
-    pub na2: [u8; 8],
+    pub content: [u8; MOST_PROGRAMMED],
+    pub na2: [u8; NUMBER_WIDTH],
 }
 
 pub struct Card {

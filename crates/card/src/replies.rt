@@ -5,8 +5,10 @@ ghost use mathlib.Core.List.{[]};
 ghost use Prim.Native.Nat.{_≤_};
 ghost use lib.ListN.{length};
 ghost use Rattle.frame.specs.declared.codes.Command.the-variants.{Dat};
+ghost use Rattle.frame.specs.Sizes.{longestFrame};
 ghost use Rattle.frame.specs.Layout.{layoutOf, within};
 ghost use Rattle.frame.specs.Building.{frameOctets, Sends};
+ghost use Rattle.records.specs.Sizes.{mostOctets};
 ghost use Rattle.records.specs.Judging.{contents};
 ghost use Rattle.card.specs.Numbers.{answerNumber};
 ghost use Rattle.card.specs.Frames.{acknowledgement, echo};
@@ -14,12 +16,13 @@ use crate::Answer;
 use frame::Built;
 use frame::Command;
 use frame::Fields;
+use frame::sizes::NUMBER_WIDTH;
 use numbers::Octets;
 use records::Record;
 
 // A frame over the front of a buffer that holds it, and its length.
 pub(crate) fn send(reply: &mut [u8], command: Command, fields: Fields, data: &[u8]) -> Octets
-    requires { ⌜ (128 ≤ length (now reply)) × (within (layoutOf command) (length (now «data»)) ≡ true) ⌝ }
+    requires { ⌜ (longestFrame ≤ length (now reply)) × (within (layoutOf command) (length (now «data»)) ≡ true) ⌝ }
     ensures { λ r. ⌜ Sends (frameOctets command fields (now («data» .entry))) (now (reply .entry)) (now (reply .exit)) r ⌝ }
 {
     let built = frame::build(reply, command, fields, data);
@@ -31,7 +34,7 @@ pub(crate) fn send(reply: &mut [u8], command: Command, fields: Fields, data: &[u
 
 // A frame without DATA.
 pub(crate) fn send_bare(reply: &mut [u8], command: Command, fields: Fields) -> Octets
-    requires { ⌜ (128 ≤ length (now reply)) × (within (layoutOf command) 0 ≡ true) ⌝ }
+    requires { ⌜ (longestFrame ≤ length (now reply)) × (within (layoutOf command) 0 ≡ true) ⌝ }
     ensures { λ r. ⌜ Sends (frameOctets command fields []) (now (reply .entry)) (now (reply .exit)) r ⌝ }
 {
     send(reply, command, fields, &[])
@@ -39,7 +42,7 @@ pub(crate) fn send_bare(reply: &mut [u8], command: Command, fields: Fields) -> O
 
 // DAT with the contents of a record.
 pub(crate) fn send_record(reply: &mut [u8], fields: Fields, stored: Record) -> Octets
-    requires { ⌜ (128 ≤ length (now reply)) × (stored .length .0 ≤ 116) ⌝ }
+    requires { ⌜ (longestFrame ≤ length (now reply)) × (stored .length .0 ≤ mostOctets) ⌝ }
     ensures { λ r. ⌜ Sends (frameOctets Dat fields (contents stored)) (now (reply .entry)) (now (reply .exit)) r ⌝ }
 {
     let storage = stored.storage;
@@ -60,7 +63,7 @@ pub(crate) fn acknowledgement(answer: Answer, granted: Command) -> Command
 }
 
 // ECH's fields: NA1 enciphered under the key, and NA2.
-pub(crate) fn echo(key: [u8; 8], na2: [u8; 8], fields: Fields) -> Fields
+pub(crate) fn echo(key: [u8; NUMBER_WIDTH], na2: [u8; NUMBER_WIDTH], fields: Fields) -> Fields
     ensures { λ r. ⌜ r ≡ echo key na2 fields ⌝ }
 {
     let na1 = fields.za1;

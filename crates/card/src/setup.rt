@@ -11,12 +11,15 @@ use crate::Identity;
 use crate::Phase;
 use crate::frames::write_answer;
 use crate::sound::broadcast;
+use frame::sizes::ADDRESS_WIDTH;
+use frame::sizes::MOST_PROGRAMMED;
+use frame::sizes::NUMBER_WIDTH;
 use receiver::Receiver;
 use records::Records;
 
 impl Card {
     // A card as setup leaves it: receiver empty, no wait, first contents.
-    fn fresh(address: [u8; 6], key: [u8; 8], records: Records) -> Card
+    fn fresh(address: [u8; ADDRESS_WIDTH], key: [u8; NUMBER_WIDTH], records: Records) -> Card
         ensures { λ r. ⌜ r ≡ fresh address key records ⌝ }
     {
         let identity = Identity {
@@ -25,8 +28,8 @@ impl Card {
         };
         let exchange = Exchange {
             phase: Phase::Idle,
-            content: [0u8; 100],
-            na2: [0u8; 8],
+            content: [0u8; MOST_PROGRAMMED],
+            na2: [0u8; NUMBER_WIDTH],
         };
         let receiver = Receiver::new();
         Card {
@@ -56,7 +59,7 @@ impl Card {
     }
 
     // Setup's checks after 17: the address (6), the rules of the records (12), then each content in turn (7, 8, 9).
-    fn admitted(address: [u8; 6], key: [u8; 8], records: Records) -> Answered
+    fn admitted(address: [u8; ADDRESS_WIDTH], key: [u8; NUMBER_WIDTH], records: Records) -> Answered
         ensures { λ r. ⌜ Tells (admitted address key records) r ⌝ }
     {
         if broadcast(address) {
@@ -76,10 +79,10 @@ impl Card {
     pub fn setup(address: &[u8], key: &[u8], records: Records) -> Answered
         ensures { λ r. ⌜ Tells (afterSetup (now (address .entry)) (now (key .entry)) records) r ⌝ }
     {
-        if address.len() != 6 {
+        if address.len() != ADDRESS_WIDTH {
             return Card::refused_setup(Answer::WrongLength);
         }
-        if key.len() != 8 {
+        if key.len() != NUMBER_WIDTH {
             return Card::refused_setup(Answer::WrongLength);
         }
         Card::admitted(octets::six(address), octets::eight(key), records)

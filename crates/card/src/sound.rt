@@ -4,12 +4,14 @@ ghost use Rattle.frame.specs.Addresses.{broadcast};
 ghost use Rattle.card.specs.Soundness.{fitting, sound};
 use crate::Card;
 use crate::Phase;
+use frame::sizes::ADDRESS_WIDTH;
+use frame::sizes::MOST_PROGRAMMED;
 
 // Whether an address is the broadcast one.
-pub(crate) fn broadcast(address: [u8; 6]) -> bool
+pub(crate) fn broadcast(address: [u8; ADDRESS_WIDTH]) -> bool
     ensures { λ r. ⌜ r ≡ broadcast address ⌝ }
 {
-    octets::equal(&address, &[0u8; 6])
+    octets::equal(&address, &[0u8; ADDRESS_WIDTH])
 }
 
 impl Phase {
@@ -23,7 +25,7 @@ impl Phase {
                 adp: _,
                 tab: _,
                 length,
-            } => length.0 <= 100,
+            } => length.0 <= MOST_PROGRAMMED,
         }
     }
 }

@@ -3,6 +3,7 @@ ghost use mathlib.Core.Path.{_≡_};
 ghost use Rattle.card.specs.Taking.{takenIf, takenFor};
 use crate::sound::broadcast;
 use frame::Command;
+use frame::sizes::ADDRESS_WIDTH;
 
 // What a card takes a good frame for: one of six, or none of its own.
 pub enum Taken {
@@ -22,7 +23,7 @@ fn taken_if(addressed: bool, taken: Taken) -> Taken
 }
 
 // What a card with this address takes a good frame with this command and ADS for.
-pub fn taken_for(own: [u8; 6], command: Command, ads: [u8; 6]) -> Taken
+pub fn taken_for(own: [u8; ADDRESS_WIDTH], command: Command, ads: [u8; ADDRESS_WIDTH]) -> Taken
     ensures { λ r. ⌜ r ≡ takenFor own command ads ⌝ }
 {
     let to_own = octets::equal(&ads, &own);

@@ -16,7 +16,7 @@ use Rattle.records.specs.declared.Record.{Record}
 use Rattle.records.specs.declared.Records.{Records}
 use Rattle.records.specs.Finding.{blank, recordAt}
 use Rattle.records.specs.Writing.{hold, store}
-use Rattle.records.proofs.Limits.{accepted-room}
+use Rattle.records.proofs.Limits.{accepted-fits}
 use Rattle.records.proofs.Writes.{write-cases}
 use Rattle.receiver.specs.declared.Receiver.{Receiver}
 use Rattle.receiver.specs.Receiver.{holding}
@@ -176,5 +176,5 @@ module _ (m : List ℕ) where
   reached-encodable (writes {d} cause t s x) k =
       let b = reached-encodable x k in
       write-cases (d .records) cause t s (λ next n. Encodable m (withRecords next d))
-      (λ i g. stored-encodable d i s (accepted-room _ s (g .accepted)) b)
+      (λ i g. stored-encodable d i s (accepted-fits _ s (g .accepted)) b)
       (λ n h. b)

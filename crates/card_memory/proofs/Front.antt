@@ -16,8 +16,8 @@ use Rattle.card_memory.proofs.RoundTrip.{kinds-agree}
 module _ (s t : List ℕ) (h : size ≤ length s) (k : size ≤ length t) (same : (j : ℕ) → j < size → getD s j 0 ≡ getD t j 0) where
   records-same : (n at : ℕ) → at + recordSize * n ≤ size → recordsIn n at s ≡ recordsIn n at t
   unfolding recordsIn
-  records-same zero at room = refl
-  records-same (suc n) at room =
+  records-same zero at inside = refl
+  records-same (suc n) at inside =
       rw (
         part-agrees at recordSize s t (omega arith) (omega arith) (λ j l. same (at + j) (omega arith)),
         records-same n (at + recordSize) (omega arith),

@@ -1,6 +1,7 @@
 -- Where each field of card memory stands (docs/MEMORY.md). Each place follows from the one before, so that a field that joins them moves the rest.
 use Prim.Native.Nat.{ℕ, _+_, _*_}
-use Rattle.frame.specs.Sizes.{addressWidth, numberWidth, mostProgrammed, mostTransferred}
+use Rattle.frame.specs.Sizes.{addressWidth, numberWidth, mostProgrammed}
+use Rattle.records.specs.Sizes.{mostRecords, mostOctets}
 use Rattle.receiver_memory.specs.Receiver as receiver
 
 -- the identity: address, and key, which is as long as the numbers that it enciphers
@@ -71,13 +72,13 @@ abbrev pub storageAt : ℕ
 storageAt = lengthAt + 1
 
 abbrev pub storageSize : ℕ
-storageSize = mostTransferred
+storageSize = mostOctets
 
 abbrev pub recordSize : ℕ
 recordSize = storageAt + storageSize
 
 abbrev pub recordPlaces : ℕ
-recordPlaces = 32
+recordPlaces = mostRecords
 
 -- all records, and all entries of setup
 abbrev pub recordsSize : ℕ

@@ -1,6 +1,8 @@
 // Where each field of card memory stands (docs/MEMORY.md). `specs/Layout.antt` has the same names.
 
 use frame::sizes;
+use records::sizes::MOST_OCTETS;
+use records::sizes::MOST_RECORDS;
 
 // The identity: address, and key, which is as long as the numbers that it enciphers.
 pub(crate) const ADDRESS_AT: usize = 0;
@@ -48,11 +50,11 @@ pub(crate) const LENGTH_AT: usize = MARKS_AT + 1;
 
 pub(crate) const STORAGE_AT: usize = LENGTH_AT + 1;
 
-pub const STORAGE_SIZE: usize = sizes::MOST_TRANSFERRED;
+pub const STORAGE_SIZE: usize = MOST_OCTETS;
 
 pub(crate) const RECORD_SIZE: usize = STORAGE_AT + STORAGE_SIZE;
 
-pub(crate) const RECORD_PLACES: usize = 32;
+pub(crate) const RECORD_PLACES: usize = MOST_RECORDS;
 
 // All records, and all entries of setup.
 pub const RECORDS_SIZE: usize = RECORD_PLACES * RECORD_SIZE;

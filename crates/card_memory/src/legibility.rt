@@ -1,15 +1,15 @@
 // What a memory can hold and a card by value cannot: state marks not in use, and kinds that are none. Both are refused with 12.
 ghost use mathlib.Core.Path.{_≡_};
-ghost use Prim.Native.Nat.{_≤_, min};
-ghost use Rattle.card_memory.specs.Layout.{recordsAt, recordPlaces, size};
+ghost use Prim.Native.Nat.{_≤_};
+ghost use Rattle.card_memory.specs.Layout.{recordsAt, size};
 ghost use Rattle.card_memory.specs.Legibility.{marksInUse, kindKnown, usedKindsKnown, legible};
 use crate::layout::COUNT_AT;
 use crate::layout::KIND_AT;
 use crate::layout::RECEIVER_MARK_AT;
-use crate::layout::RECORD_PLACES;
 use crate::layout::RECORD_SIZE;
 use crate::layout::RECORDS_AT;
 use crate::layout::WAIT_MARK_AT;
+use records::in_use;
 
 // The kind of a record that starts at an offset.
 fn kind_known(memory: &[u8], at: usize) -> bool
@@ -19,24 +19,12 @@ fn kind_known(memory: &[u8], at: usize) -> bool
     octets::octet(memory, at + KIND_AT) <= 1
 }
 
-// How many records are in use: a count over the places breaks a setup rule, and there are the places to look at.
-fn in_use(count: u8) -> usize
-    ensures { λ r. ⌜ r ≡ min count recordPlaces ⌝ }
-{
-    let count = count as usize;
-    if count < RECORD_PLACES {
-        count
-    } else {
-        RECORD_PLACES
-    }
-}
-
 // Those of the first records from an offset on, as many as are in use.
 pub(crate) fn used_kinds_known(memory: &[u8], count: u8, start: usize) -> bool
     requires { ⌜ start ≤ recordsAt ⌝ }
     ensures { λ r. ⌜ r ≡ usedKindsKnown count start (now (memory .entry)) ⌝ }
 {
-    let mut left = in_use(count);
+    let mut left = in_use(count as usize);
     let mut at = start;
     while 0 < left {
         if !kind_known(memory, at) {

@@ -2,10 +2,12 @@
 use crate::lines;
 use card::Card;
 use history::calls::CallKind;
+use history::calls::LONGEST_LENT;
 use history::calls::head_at;
 use history::calls::text_at;
 ghost use mathlib.Core.Path.{_≡_};
 ghost use lib.ListN.{length};
+ghost use Rattle.history.specs.Encoding.{longestLent};
 
 // All calls, and the card after them.
 pub(crate) fn play(card: Card, s: &[u8]) -> Card {
@@ -37,10 +39,10 @@ fn called(card: Card, index: u64, calls: &[u8]) -> Card {
 }
 
 // The octets A5 that a buffer is lent with, so that one that is written to shows.
-fn untouched() -> [u8; 255]
-    ensures { λ r. ⌜ 255 ≡ length r ⌝ }
+fn untouched() -> [u8; LONGEST_LENT]
+    ensures { λ r. ⌜ longestLent ≡ length r ⌝ }
 {
-    [0xA5; 255]
+    [0xA5; LONGEST_LENT]
 }
 
 fn octet(card: Card, index: u64, octet: u8, reply: u8, na2: &[u8]) -> Card {

@@ -1,20 +1,27 @@
 // The lines that are printed.
+use history::calls::LONGEST_LENT;
 use libc::STDOUT_FILENO;
 use numbers::Octets;
 use records::Record;
 use records::Records;
+use records::sizes::MOST_RECORDS;
 use text::put_hex;
 use text::put_number;
 use text::put_words;
 
-// A line with its end; the longest has under 600 octets.
+// Enough for a line without octets.
+const SHORT_LINE_SIZE: usize = 64;
+// Enough for every line: the longest, with the octets of a reply or a record, has under 600 octets.
+const LINE_SIZE: usize = 640;
+
+// A line with its end.
 fn print_line(line: &mut [u8], at: Octets) {
     let end = put_words(line, at, b"\n");
     io::write_all(STDOUT_FILENO, octets::part(line, 0, end.0));
 }
 
 pub(crate) fn print_setup(number: u8) {
-    let mut line = [0u8; 64];
+    let mut line = [0u8; SHORT_LINE_SIZE];
     let next = put_number(&mut line, Octets(0), b"setup ", number as u64);
     print_line(&mut line, next);
 }
@@ -28,19 +35,19 @@ fn put_head(line: &mut [u8], index: u64, number: u8) -> Octets {
 // A call without a reply has a line where it gave a number.
 pub(crate) fn print_call(index: u64, number: u8) {
     if number != 0 {
-        let mut line = [0u8; 64];
+        let mut line = [0u8; SHORT_LINE_SIZE];
         let next = put_head(&mut line, index, number);
         print_line(&mut line, next);
     }
 }
 
 // An octet has a line where it gave a number or a reply, or where an octet past the reply is no longer A5.
-pub(crate) fn print_octet(index: u64, number: u8, buffer: &[u8; 255], reply: usize) {
+pub(crate) fn print_octet(index: u64, number: u8, buffer: &[u8; LONGEST_LENT], reply: usize) {
     let kept = is_kept(buffer, reply);
     if number == 0 && reply == 0 && kept {
         return;
     }
-    let mut line = [0u8; 640];
+    let mut line = [0u8; LINE_SIZE];
     let reply_at = put_head(&mut line, index, number);
     let next = put_some(&mut line, reply_at, octets::part(buffer, 0, reply));
     let end = put_past(&mut line, next, kept);
@@ -69,7 +76,7 @@ fn is_kept(buffer: &[u8], from: usize) -> bool {
 // A line for each record in use.
 pub(crate) fn print_records(records: Records) {
     let mut i = 0;
-    while i < 32 {
+    while i < MOST_RECORDS {
         if i < records.count {
             print_record(records.each[i]);
         }
@@ -81,7 +88,7 @@ fn print_record(record: Record) {
     let attributes = record.attributes;
     let length = record.length;
     let storage = record.storage;
-    let mut line = [0u8; 640];
+    let mut line = [0u8; LINE_SIZE];
     let length_at = put_hex(&mut line, Octets(0), b"record ", &[attributes.tab]);
     let octets_at = put_number(&mut line, length_at, b" ", length.0 as u64);
     let next = put_some(&mut line, octets_at, octets::part(&storage, 0, length.0));

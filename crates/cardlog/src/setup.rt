@@ -8,19 +8,19 @@ use records::Attributes;
 use records::Kind;
 use records::Record;
 use records::Records;
+use records::in_use;
+use records::sizes::MOST_OCTETS;
+
+// A record of the input: TAB, kind, two limits, marks and length, then its storage.
+const STORAGE_AT: usize = 6;
+
+const ENTRY_SIZE: usize = STORAGE_AT + MOST_OCTETS;
 
 // Where the key, the records and the calls begin; the octet before the key is its length, that before the records their count.
 pub(crate) struct Offsets {
     pub(crate) key: usize,
     pub(crate) records: usize,
     pub(crate) calls: usize,
-}
-
-// How many records the input has: a card has 32 at most.
-fn in_use(count: usize) -> usize
-    ensures { λ r. ⌜ r ≤ 32 ⌝ }
-{
-    if count < 32 { count } else { 32 }
 }
 
 pub(crate) fn read_offsets(s: &[u8]) -> Offsets
@@ -31,7 +31,7 @@ pub(crate) fn read_offsets(s: &[u8]) -> Offsets
     let key_length = octets::octet(s, key - 1) as usize;
     let records = key + key_length + 1;
     let count = octets::octet(s, records - 1) as usize;
-    let calls = records + 122 * in_use(count);
+    let calls = records + ENTRY_SIZE * in_use(count);
     Offsets {
         key: key,
         records: records,
@@ -62,8 +62,8 @@ fn read_records(s: &[u8], from: usize) -> Records
     let mut all = Records::empty();
     let mut i = 0;
     while i < n {
-        let at = from + 122 * i;
-        let record = read_record(octets::part(s, at, at + 122));
+        let at = from + ENTRY_SIZE * i;
+        let record = read_record(octets::part(s, at, at + ENTRY_SIZE));
         all.each[i] = record;
         i += 1;
     }
@@ -74,7 +74,7 @@ fn read_records(s: &[u8], from: usize) -> Records
 fn read_record(s: &[u8]) -> Record {
     let attributes = read_attributes(s);
     let length = octets::octet(s, 5) as usize;
-    let storage = read_storage(octets::part(s, 6, 122));
+    let storage = read_storage(octets::part(s, STORAGE_AT, ENTRY_SIZE));
     Record {
         attributes: attributes,
         length: Octets(length),
@@ -82,8 +82,8 @@ fn read_record(s: &[u8]) -> Record {
     }
 }
 
-fn read_storage(data: &[u8]) -> [u8; 116] {
-    let mut storage = [0u8; 116];
+fn read_storage(data: &[u8]) -> [u8; MOST_OCTETS] {
+    let mut storage = [0u8; MOST_OCTETS];
     octets::put(&mut storage, 0, data);
     storage
 }
@@ -109,7 +109,7 @@ fn read_kind(kind: u8, characters: u8) -> Kind {
     }
 }
 
-// A kind that is not known breaks the same rule as a limit over 116, which stands for it.
+// A kind that is not known breaks the same rule as a limit over the most, which stands for it.
 fn read_limit(kind: u8, limit: u8) -> Octets {
     if kind < 2 {
         Octets(limit as usize)

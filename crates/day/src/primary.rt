@@ -2,6 +2,7 @@
 use crate::wire::Sent;
 use crate::wire::TOOL;
 use crate::wire::silence;
+use frame::sizes::MOST_TRANSFERRED;
 use numbers::Octets;
 use printing::print;
 use printing::print_tool;
@@ -33,7 +34,7 @@ pub(crate) struct Primary {
 
 fn no_contents() -> Contents {
     Contents {
-        octets: [0u8; 116],
+        octets: [0u8; MOST_TRANSFERRED],
         length: Octets(0),
     }
 }

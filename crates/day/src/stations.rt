@@ -8,6 +8,8 @@ use records::Attributes;
 use records::Kind;
 use records::Record;
 use records::Records;
+use records::sizes::MOST_OCTETS;
+use records::sizes::MOST_RECORDS;
 
 pub(crate) const FLAT: [u8; 6] = [0x11, 0x22, 0x33, 0x44, 0x55, 0x66];
 
@@ -77,7 +79,7 @@ fn attributes_of(row: &[u8]) -> Attributes {
 
 fn record_of(row: &[u8]) -> Record {
     let contents = octets::part(row, 4, row.len());
-    let mut storage = [0u8; 116];
+    let mut storage = [0u8; MOST_OCTETS];
     octets::put(&mut storage, 0, contents);
     let attributes = attributes_of(row);
     let length = Octets(contents.len());
@@ -88,11 +90,11 @@ fn record_of(row: &[u8]) -> Record {
     }
 }
 
-// One record more; none where there are 32 already.
+// One record more; none where a card has no place for it.
 fn with(records: Records, row: &[u8]) -> Records {
     let n = records.count;
     let mut next = records;
-    if n < 32 {
+    if n < MOST_RECORDS {
         let fresh = record_of(row);
         next.each[n] = fresh;
         next.count = n + 1;

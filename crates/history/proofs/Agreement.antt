@@ -14,6 +14,7 @@ use Rattle.frame.specs.Addresses.{broadcast}
 use Rattle.frame.specs.declared.codes.Command.{Command}
 use Rattle.frame.specs.declared.codes.Command.the-variants.{Enq, Dat, Rec, Ech, Aut, Eos, Aso, Rso, Ib, Drj, Arj, Trf, Trb, Tra, Pre, Sel}
 use Rattle.frame.specs.declared.content.Fields.{Fields}
+use Rattle.frame.specs.Sizes.{longestFrame, addressWidth, numberWidth}
 use Rattle.frame.specs.Content.{fieldsOf, dataOf}
 use Rattle.records.specs.Finding.{attributesOf, findReadable}
 use Rattle.records.proofs.Writes.{write-attributes}
@@ -90,8 +91,8 @@ module _ (s : Setup) where
   same-role Rec f = role-if (same (f .ads) (s .address)) taking.Rec
   same-role Aut f = role-if (same (f .ads) (s .address)) taking.Aut
   same-role Trf f = role-if (same (f .ads) (s .address)) taking.Trf
-  same-role Trb f = role-if (same (f .ads) (replicate 6 0)) taking.Trb
-  same-role Ib f = role-if (same (f .ads) (replicate 6 0)) taking.Ib
+  same-role Trb f = role-if (same (f .ads) (replicate addressWidth 0)) taking.Trb
+  same-role Ib f = role-if (same (f .ads) (replicate addressWidth 0)) taking.Ib
   same-role Dat f = refl
   same-role Ech f = refl
   same-role Eos f = refl
@@ -231,8 +232,8 @@ module _ (s : Setup) where
     octet-agrees : (o : ℕ) (loan : Loan) → Agrees s (card-events.afterOctet c o loan .card) (step s b (Octet o loan))
     unfolding card-events.afterOctet step
     octet-agrees o loan =
-        rw (sound-test c (whole .sound), not-under 128 (loan .reply))
-        (loan-agrees (eqb (length (loan .na2)) 8) (leb 128 (loan .reply)) (card-events.heard c o loan) _ _ b (heard-octet o loan) h)
+        rw (sound-test c (whole .sound), not-under longestFrame (loan .reply))
+        (loan-agrees (eqb (length (loan .na2)) numberWidth) (leb longestFrame (loan .reply)) (card-events.heard c o loan) _ _ b (heard-octet o loan) h)
 
     pub step-agrees : (k : Call) → Agrees s (after c k .card) (step s b k)
     unfolding after card-events.afterGap card-events.afterSessionEnd card-events.afterMeterWrite step note card.written

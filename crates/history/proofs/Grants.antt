@@ -20,6 +20,7 @@ use Rattle.records.specs.declared.Kind.the-variants.{Raw, Label}
 use Rattle.records.specs.declared.Kind.{Kind}
 use Rattle.records.specs.declared.Attributes.{Attributes}
 use Rattle.records.specs.declared.Records.{Records}
+use Rattle.records.specs.Sizes.{mostOctets}
 use Rattle.records.specs.Judging.{lengthOf, overLong, textAnswer, kindAnswer, acceptable}
 use Rattle.records.specs.Finding.{used, attributesOf, recordAt, find}
 use Rattle.records.specs.Writing.{opens, grantAt, grant}
@@ -76,8 +77,8 @@ kind-test : (k : Kind) (d : List ℕ) → TextWithin k d → numberOf (kindAnswe
 kind-test Raw d h = refl
 kind-test (Label limit) d h = rw (text-within limit d (h .0) (h .1))
 
--- a record within setup's rules: its limit allows no more than 116 octets
-module _ (a : Attributes) (room : a .limit .0 ≤ 116) (d : List ℕ) where
+-- a record within setup's rules: its limit is in range
+module _ (a : Attributes) (in-range : a .limit .0 ≤ mostOctets) (d : List ℕ) where
   acceptable-of : numberOf (acceptable a d) ≡ none → Acceptable a d
   unfolding acceptable
   acceptable-of h =

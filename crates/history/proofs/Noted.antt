@@ -10,6 +10,7 @@ use Rattle.octets.proofs.Same.{same-self}
 use Rattle.numbers.specs.Answer.{given}
 use Rattle.frame.specs.declared.codes.Command.{Command}
 use Rattle.frame.specs.declared.codes.Command.the-variants.{Rec, Aut, Trf, Trb}
+use Rattle.frame.specs.Sizes.{longestFrame, addressWidth}
 use Rattle.frame.specs.Content.{fieldsOf, dataOf}
 use Rattle.frame.specs.Checks.{inspected}
 use Rattle.records.specs.Writing.{grant}
@@ -34,7 +35,7 @@ some-left (suc n) y e = impossible (cc)
 module _ (s : Setup) where
   octet-heard : (b : Book) (o : ℕ) (loan : Loan) → Usable loan → step s b (Octet o loan) ≡ heard (onOctet o (b .receiver)) s loan b
   unfolding step
-  octet-heard b o loan u = rw (le-ltb (loan .reply) 128 (u .enough), eq-eqb _ _ (u .eight))
+  octet-heard b o loan u = rw (le-ltb (loan .reply) longestFrame (u .enough), eq-eqb _ _ (u .eight))
 
   until : (f : List ℕ) (k : Command) (x : List Handed) → AllUsable x → (n : ℕ) (b : Book) → onOctets (octetsIn x) (b .receiver) .outcomes ≡ replicate n Silent ++ (Complete k f ∷ []) → onOctets (octetsIn x) (b .receiver) .last ≡ Awaiting
       → steps s b (sent x) ≡ onFrame k s (lastLoan x) (fieldsOf k f) (dataOf k f) (withReceiver Awaiting b)
@@ -79,7 +80,7 @@ module _ (s : Setup) (x : List Handed) (all : AllUsable x) (b : Book) (empty : b
       rw (frame-heard s x all Trf good b empty, own, same-self)
       (note-granted s (Transferred (f .adp)) (f .tab) (dataOf Trf (octetsIn x)) (withWait None (withReceiver Awaiting b)) i g)
 
-  pub broadcast-noted : inspected (octetsIn x) ≡ given Trb → fieldsOf Trb (octetsIn x) .ads ≡ replicate 6 0
+  pub broadcast-noted : inspected (octetsIn x) ≡ given Trb → fieldsOf Trb (octetsIn x) .ads ≡ replicate addressWidth 0
       → grant (s .attributes) (causeOf (Broadcast (fieldsOf Trb (octetsIn x) .adp))) (fieldsOf Trb (octetsIn x) .tab) (dataOf Trb (octetsIn x)) ≡ given i
       → steps s b (sent x) .noted (fieldsOf Trb (octetsIn x) .tab) ≡ dataOf Trb (octetsIn x)
   unfolding onFrame roleOf onRole

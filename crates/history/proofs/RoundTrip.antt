@@ -9,7 +9,7 @@ use lib.Seq.{drop-append-seam, drop-drop}
 use borrow.Author.Tests.{le-leb}
 use Rattle.octets.proofs.Parts.{part-middle}
 use Rattle.card.specs.Events.{Call, Octet, Gap, SessionEnd, MeterWrite}
-use Rattle.history.specs.Encoding.{callKind, wholeAt, textAt, headAt, callOf, callAt, sizeAt, callsWithin, callsOf, packed, octetsOfCall, octetsOfCalls}
+use Rattle.history.specs.Encoding.{headWidth, callKind, wholeAt, textAt, headAt, callOf, callAt, sizeAt, callsWithin, callsOf, packed, octetsOfCall, octetsOfCalls}
 use Rattle.history.proofs.Decoding.{calls-none}
 
 module _ (kind argument reply : ℕ) (text rest : List ℕ) where
@@ -17,23 +17,23 @@ module _ (kind argument reply : ℕ) (text rest : List ℕ) where
   here = packed kind argument reply text ++ rest
 
   whole : wholeAt here ≡ true
-  whole = le-leb (4 + length text) (length here) (omega (arith, length-append text rest))
+  whole = le-leb (headWidth + length text) (length here) (omega (arith, length-append text rest))
 
   text-read : textAt here ≡ text
   unfolding textAt
-  text-read = part-middle (kind ∷ argument ∷ reply ∷ length text ∷ []) text rest 4 (4 + length text) refl refl
+  text-read = part-middle (kind ∷ argument ∷ reply ∷ length text ∷ []) text rest headWidth (headWidth + length text) refl refl
 
   pub call-read : callAt here ≡ callOf (callKind kind) argument reply text
   unfolding callAt headAt
   call-read = rw (whole, text-read)
 
-  pub size-read : sizeAt here ≡ 4 + length text
+  pub size-read : sizeAt here ≡ headWidth + length text
   unfolding headAt
   size-read = rw (whole, sizeAt)
 
   first-read : (n : ℕ) → callsWithin (suc n) here ≡ callOf (callKind kind) argument reply text ∷ callsWithin n rest
   unfolding callsWithin
-  first-read n = rw (call-read, size-read, ← drop-drop (length text) 4 here, drop-append-seam text rest)
+  first-read n = rw (call-read, size-read, ← drop-drop (length text) headWidth here, drop-append-seam text rest)
 
 call-back : (k : Call) (rest : List ℕ) (n : ℕ) → callsWithin (suc n) (octetsOfCall k ++ rest) ≡ k ∷ callsWithin n rest
 unfolding octetsOfCall callOf callKind

@@ -8,6 +8,7 @@ use lib.Dec.{eqb}
 use lib.ListN.{length}
 use borrow.Author.Tests.{eqb-true}
 use Rattle.numbers.specs.Table.{none, wrongAddress, brokenRule, wrongLength}
+use Rattle.frame.specs.Sizes.{addressWidth, numberWidth}
 use Rattle.frame.specs.Addresses.{broadcast}
 use Rattle.records.specs.declared.Records.{Records}
 use Rattle.records.specs.Finding.{used}
@@ -29,8 +30,8 @@ module _ (address key : List ℕ) (given : Records) where
   pub record Accepted (c : Card) : Type 0 where
     pub card : c ≡ fresh address key given
     pub sound : records.Sound given
-    pub six : length address ≡ 6
-    pub eight : length key ≡ 8
+    pub six : length address ≡ addressWidth
+    pub eight : length key ≡ numberWidth
     pub own : broadcast address ≡ false
 
   abbrev Admits : Response → Type 0
@@ -39,7 +40,7 @@ module _ (address key : List ℕ) (given : Records) where
   refuses : {X : Type 0} (n : ℕ) → suc n ≡ none → X
   refuses n h = let z : ⊥ = omega arith in absurd z
 
-  module _ (six : length address ≡ 6) (eight : length key ≡ 8) where
+  module _ (six : length address ≡ addressWidth) (eight : length key ≡ numberWidth) where
     by-contents : (n : ℕ) → contentsNumber (used given) ≡ n → keepsRules given ≡ true → broadcast address ≡ false → Admits (admittedWith n (fresh address key given))
     unfolding admittedWith records.sound
     by-contents zero e k own h = record { card = refl; sound = sound-means given .0 (rw (k, e)); six = six; eight = eight; own = own }
@@ -54,16 +55,16 @@ module _ (address key : List ℕ) (given : Records) where
     by-address true e h = refuses _ h
     by-address false e h = by-rules (keepsRules given) refl e h
 
-  by-lengths : (x : Bool) → (eqb (length address) 6 && eqb (length key) 8) ≡ x → Admits (cond x (admitted address key given) (refusedSetup wrongLength))
+  by-lengths : (x : Bool) → (eqb (length address) addressWidth && eqb (length key) numberWidth) ≡ x → Admits (cond x (admitted address key given) (refusedSetup wrongLength))
   unfolding admitted
   by-lengths true e h =
-      let both = and-eq-true-iff (eqb (length address) 6) (eqb (length key) 8) .0 e in
+      let both = and-eq-true-iff (eqb (length address) addressWidth) (eqb (length key) numberWidth) .0 e in
       by-address (eqb-true _ _ (both .0)) (eqb-true _ _ (both .1)) (broadcast address) refl h
   by-lengths false e h = refuses _ h
 
   pub setup-accepted : Admits (afterSetup address key given)
   unfolding afterSetup
-  setup-accepted = by-lengths (eqb (length address) 6 && eqb (length key) 8) refl
+  setup-accepted = by-lengths (eqb (length address) addressWidth && eqb (length key) numberWidth) refl
 
   pub fresh-agrees : Arrays given → (c : Card) → Accepted c → Agrees (setupOf address key given) c (book.fresh given)
   fresh-agrees arrays c a =

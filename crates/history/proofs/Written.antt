@@ -8,6 +8,7 @@ use lib.ListN.{length, replicate}
 use Rattle.numbers.specs.Table.{none}
 use Rattle.numbers.specs.Answer as answer
 use Rattle.frame.specs.declared.codes.Command.the-variants.{Rec, Trf, Trb}
+use Rattle.frame.specs.Sizes.{addressWidth}
 use Rattle.frame.specs.Content.{fieldsOf, dataOf}
 use Rattle.frame.specs.Checks.{inspected}
 use Rattle.label.specs.Utf8.{wellFormed}
@@ -70,7 +71,7 @@ module _ (address key : List ℕ) (first : Records) (arrays : Arrays first) (acc
     unfolding ended
     transfer-written good own g = held _ _ _ place (g .named) (after-end (sent x) _ _ (transfer-noted s x all ended refl place good own (finds _ _ _ place g)))
 
-    pub broadcast-written : inspected (octetsIn x) ≡ answer.given Trb → fieldsOf Trb (octetsIn x) .ads ≡ replicate 6 0 → Granted first (Broadcast (fieldsOf Trb (octetsIn x) .adp)) (fieldsOf Trb (octetsIn x) .tab) (dataOf Trb (octetsIn x)) place
+    pub broadcast-written : inspected (octetsIn x) ≡ answer.given Trb → fieldsOf Trb (octetsIn x) .ads ≡ replicate addressWidth 0 → Granted first (Broadcast (fieldsOf Trb (octetsIn x) .adp)) (fieldsOf Trb (octetsIn x) .tab) (dataOf Trb (octetsIn x)) place
         → Holds (dataOf Trb (octetsIn x)) (recordAt (run (afterSetup address key first .card) (past ++ (SessionEnd ∷ sent x)) .records) place)
     unfolding ended
     broadcast-written good everyone g = held _ _ _ place (g .named) (after-end (sent x) _ _ (broadcast-noted s x all ended refl place good everyone (finds _ _ _ place g)))

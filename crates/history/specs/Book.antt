@@ -13,6 +13,7 @@ use Rattle.numbers.specs.Answer.{Answer}
 use Rattle.frame.specs.declared.codes.Command.{Command}
 use Rattle.frame.specs.declared.codes.Command.the-variants.{Enq, Dat, Rec, Ech, Aut, Eos, Aso, Rso, Ib, Drj, Arj, Trf, Trb, Tra, Pre, Sel}
 use Rattle.frame.specs.declared.content.Fields.{Fields}
+use Rattle.frame.specs.Sizes.{longestFrame, addressWidth, numberWidth}
 use Rattle.frame.specs.Content.{fieldsOf, dataOf}
 use Rattle.receiver.specs.Receiving.{Reception, Awaiting, Outcome, Silent, Dropped, Complete, Step, onOctet, onGap}
 use Rattle.records.specs.declared.Cause.the-variants as cause
@@ -106,7 +107,7 @@ abbrev pub ifOwn : Setup → Fields → Role → Role
 ifOwn s f role = cond (same (f .ads) (s .address)) role NotTaken
 
 abbrev pub ifBroadcast : Fields → Role → Role
-ifBroadcast f role = cond (same (f .ads) (replicate 6 0)) role NotTaken
+ifBroadcast f role = cond (same (f .ads) (replicate addressWidth 0)) role NotTaken
 
 -- "The card takes ENQ, REC, AUT and TRF with its own address, and TRB and IB with a broadcast address", which is all zero (004 4.4.8).
 unfoldable pub roleOf : Command → Setup → Fields → Role
@@ -153,7 +154,7 @@ heard r s loan b = heardAs (r .outcome) s loan (withReceiver (r .next) b)
 
 -- 17: "reply or frame buffer under 128 octets, .. a lent key or number not of 8 octets"
 abbrev pub loanRefused : Loan → Bool
-loanRefused loan = ltb (loan .reply) 128 || not (eqb (length (loan .na2)) 8)
+loanRefused loan = ltb (loan .reply) longestFrame || not (eqb (length (loan .na2)) numberWidth)
 
 -- "Refused with 17: no step; 12 can't occur." "Session end: receiver empty, no wait." "Meter write: noted unless 10, 7, 8 or 9 applies."
 unfoldable pub step : Setup → Book → Call → Book

@@ -7,6 +7,7 @@ use lib.ListN.{length}
 use Rattle.numbers.specs.Table.{none}
 use Rattle.records.specs.declared.Record.{Record}
 use Rattle.records.specs.declared.Records.{Records}
+use Rattle.records.specs.Sizes.{mostRecords, mostOctets}
 use Rattle.records.specs.Judging.{contents}
 use Rattle.records.specs.Finding.{attributesOf, recordAt}
 use Rattle.card.specs.declared.Card.{Card}
@@ -32,10 +33,10 @@ pub record Kept (given : Records) (c : Card) (b : Book) : Type 0 where
   pub attributes : attributesOf (c .records) ≡ attributesOf given
   pub each : (i : ℕ) → i < given .count → Holds (b .noted (recordAt given i .attributes .tab)) (recordAt (c .records) i)
 
--- What the types of a value's arrays say: 32 records, each with 116 octets of storage. A list by itself does not say it.
+-- What the types of a value's arrays say: how many records, and how many octets of storage each. A list by itself does not say it.
 pub record Arrays (s : Records) : Type 0 where
-  pub each : length (s .each) ≡ 32
-  pub storage : (i : ℕ) → i < 32 → length (recordAt s i .storage) ≡ 116
+  pub each : length (s .each) ≡ mostRecords
+  pub storage : (i : ℕ) → i < mostRecords → length (recordAt s i .storage) ≡ mostOctets
 
 -- What setup and then a history give: setup's number, the card after the history, and the claim where setup accepts.
 pub record Replayed (address key : List ℕ) (given : Records) (h : List Call) (r : Answered) : Type 0 where

@@ -11,17 +11,25 @@ use Rattle.history.specs.declared.calls.CallKind.{CallKind}
 use Rattle.history.specs.declared.calls.CallKind.the-variants as kind
 use Rattle.history.specs.declared.calls.Head.{Head}
 
+-- the octets of a call before its text
+abbrev pub headWidth : ℕ
+headWidth = 4
+
+-- the longest reply buffer that a call can state, since the length is one octet
+abbrev pub longestLent : ℕ
+longestLent = 255
+
 -- 0 is an octet, 1 a meter write, 2 a session end, any other kind a gap
 unfoldable pub callKind : ℕ → CallKind
 callKind n = cond (eqb n 0) kind.Octet (cond (eqb n 1) kind.MeterWrite (cond (eqb n 2) kind.SessionEnd kind.Gap))
 
 -- whether the octets begin with a whole call
 abbrev pub wholeAt : List ℕ → Bool
-wholeAt h = leb (4 + getD h 3 0) (length h)
+wholeAt h = leb (headWidth + getD h 3 0) (length h)
 
 -- A call is a kind, an octet or TAB, the length of the reply buffer, the length of a text, and the text: the number lent, or data.
 abbrev pub wholeHead : List ℕ → Head
-wholeHead h = record { kind = callKind (getD h 0 0); argument = getD h 1 0; reply = getD h 2 0; size = inOctets (4 + getD h 3 0) }
+wholeHead h = record { kind = callKind (getD h 0 0); argument = getD h 1 0; reply = getD h 2 0; size = inOctets (headWidth + getD h 3 0) }
 
 -- one that the octets' end cuts is a gap, and takes all of them
 abbrev pub cutHead : List ℕ → Head
@@ -31,7 +39,7 @@ unfoldable pub headAt : List ℕ → Head
 headAt h = cond (wholeAt h) (wholeHead h) (cutHead h)
 
 unfoldable pub textAt : List ℕ → List ℕ
-textAt h = partOf h 4 (4 + getD h 3 0)
+textAt h = partOf h headWidth (headWidth + getD h 3 0)
 
 -- what a call does not use may be anything
 unfoldable pub callOf : CallKind → ℕ → ℕ → List ℕ → Call

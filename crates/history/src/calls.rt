@@ -4,6 +4,11 @@ ghost use mathlib.Core.Path.{_≡_};
 ghost use Rattle.history.specs.Encoding.{callKind, headAt, textAt};
 use numbers::Octets;
 
+// The octets of a call before its text.
+const HEAD_WIDTH: usize = 4;
+// The longest reply buffer that a call can state, since the length is one octet.
+pub const LONGEST_LENT: usize = 255;
+
 pub enum CallKind {
     Octet,
     MeterWrite,
@@ -38,7 +43,7 @@ fn call_kind(kind: u8) -> CallKind
 pub fn head_at(history: &[u8]) -> Head
     ensures { λ r. ⌜ r ≡ headAt (now (history .entry)) ⌝ }
 {
-    let end = 4 + octets::octet(history, 3) as usize;
+    let end = HEAD_WIDTH + octets::octet(history, 3) as usize;
     if history.len() < end {
         return Head {
             kind: CallKind::Gap,
@@ -60,5 +65,5 @@ pub fn text_at(history: &[u8]) -> &[u8]
     ensures { λ r. ⌜ now r ≡ textAt (now (history .entry)) ⌝ }
 {
     let length = octets::octet(history, 3) as usize;
-    octets::part(history, 4, 4 + length)
+    octets::part(history, HEAD_WIDTH, HEAD_WIDTH + length)
 }

@@ -7,6 +7,7 @@ ghost use Rattle.history.specs.Encoding.{callAt, callsOf};
 pub mod calls;
 
 use crate::calls::CallKind;
+use crate::calls::LONGEST_LENT;
 use crate::calls::head_at;
 use crate::calls::text_at;
 use card::Answered;
@@ -17,7 +18,7 @@ use records::Records;
 fn after_octet(card: Card, octet: u8, na2: &[u8], reply: u8) -> Card
     ensures { λ r. ⌜ r ≡ after card (Octet octet (record { na2 = now (na2 .entry); reply = reply })) .card ⌝ }
 {
-    let mut buffer = [0u8; 255];
+    let mut buffer = [0u8; LONGEST_LENT];
     let end = reply as usize;
     let stepped = card.octet(octet, na2, &mut buffer[..end]);
     let next = stepped.card;

@@ -12,6 +12,7 @@ use card_exports::propolisk_card_step_octet;
 use card_exports::propolisk_card_step_session_end;
 use card_memory::layout;
 use history::calls::CallKind;
+use history::calls::LONGEST_LENT;
 use history::calls::head_at;
 use history::calls::text_at;
 
@@ -22,7 +23,7 @@ const ROOM_WIDTH: usize = 2;
 fn after_octet(memory: &mut [u8], octet: u8, na2: &[u8], reply: u8)
     ensures { λ _. ⌜ now (memory .exit) ≡ callOutcome (now (memory .entry)) (Octet octet (record { na2 = now (na2 .entry); reply = reply })) .memory ⌝ }
 {
-    let mut buffer = [0u8; 255];
+    let mut buffer = [0u8; LONGEST_LENT];
     let mut length = 0usize;
     let end = reply as usize;
     propolisk_card_step_octet(memory, octet, na2, &mut buffer[..end], &mut length);

@@ -8,14 +8,15 @@ use lib.Seq.{drop-cons, getD-take}
 use Rattle.records.specs.declared.Attributes.{Attributes}
 use Rattle.records.specs.declared.Record.{Record}
 use Rattle.records.specs.declared.Records.{Records}
+use Rattle.records.specs.Sizes.{mostRecords}
 use Rattle.records.specs.Finding.{used, attributesOf, blankAttributes, blank, recordAt}
 use Rattle.records.specs.Setup.{Rules}
 
--- of an array of 32 records, as many as the count says are in use
-pub used-length : (s : Records) → length (s .each) ≡ 32 → length (used s) ≡ min (s .count) 32
+-- of an array of as many records as a card has, as many as the count says are in use
+pub used-length : (s : Records) → length (s .each) ≡ mostRecords → length (used s) ≡ min (s .count) mostRecords
 used-length s h = rw (length-take, h)
 
-pub used-count : (s : Records) → length (s .each) ≡ 32 → Rules s → length (used s) ≡ s .count
+pub used-count : (s : Records) → length (s .each) ≡ mostRecords → Rules s → length (used s) ≡ s .count
 used-count s h rules = omega (arith, used-length s h, rules .few)
 
 pub attributes-length : (s : Records) → length (attributesOf s) ≡ length (used s)

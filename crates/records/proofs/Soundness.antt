@@ -13,6 +13,7 @@ use Rattle.numbers.specs.Answer.{numberOf}
 use Rattle.records.specs.declared.Attributes.{Attributes}
 use Rattle.records.specs.declared.Record.{Record}
 use Rattle.records.specs.declared.Records.{Records}
+use Rattle.records.specs.Sizes.{mostRecords, mostOctets, mostCharacters}
 use Rattle.records.specs.Judging.{overLong, acceptable, contents, contentsAnswer}
 use Rattle.records.specs.Finding.{used, attributesOf, blankAttributes, recordAt}
 use Rattle.records.specs.Setup.{characterLimit, keepsLimits, allKeepLimits, tabsApart, keepsRules, contentsNumber, sound, Rules, Sound, empty}
@@ -27,10 +28,10 @@ module _ (s : Records) where
   outside : {i : ℕ} → i < length (attributesOf s) → i < length (used s)
   outside h = omega (arith, attributes-length s)
 
-  limits-at : allKeepLimits (attributesOf s) ≡ true → (i : ℕ) → i < length (used s) → (recordAt s i .attributes .limit .0 ≤ 116) × (characterLimit (recordAt s i .attributes .kind) ≤ 116)
+  limits-at : allKeepLimits (attributesOf s) ≡ true → (i : ℕ) → i < length (used s) → (recordAt s i .attributes .limit .0 ≤ mostOctets) × (characterLimit (recordAt s i .attributes .kind) ≤ mostCharacters)
   limits-at h i k =
       let kept : keepsLimits (recordAt s i .attributes) ≡ true = ap keepsLimits (sym (attributes-at s i k)) ∙ limits-every (attributesOf s) .0 h i (inside k) in
-      let tests = and-eq-true-iff (leb (recordAt s i .attributes .limit .0) 116) (leb (characterLimit (recordAt s i .attributes .kind)) 116) .0 kept in
+      let tests = and-eq-true-iff (leb (recordAt s i .attributes .limit .0) mostOctets) (leb (characterLimit (recordAt s i .attributes .kind)) mostCharacters) .0 kept in
       (leb-true _ _ (tests .0), leb-true _ _ (tests .1))
 
   tab-at : (i : ℕ) → i < length (used s) → getD (attributesOf s) i blankAttributes .tab ≡ recordAt s i .attributes .tab
@@ -39,8 +40,8 @@ module _ (s : Records) where
   rules-of : keepsRules s ≡ true → Rules s
   unfolding keepsRules
   rules-of h =
-      let outer = and-eq-true-iff (leb (s .count) 32 && tabsApart (attributesOf s)) (allKeepLimits (attributesOf s)) .0 h in
-      let inner = and-eq-true-iff (leb (s .count) 32) (tabsApart (attributesOf s)) .0 (outer .0) in
+      let outer = and-eq-true-iff (leb (s .count) mostRecords && tabsApart (attributesOf s)) (allKeepLimits (attributesOf s)) .0 h in
+      let inner = and-eq-true-iff (leb (s .count) mostRecords) (tabsApart (attributesOf s)) .0 (outer .0) in
       record {
         few = leb-true _ _ (inner .0);
         apart = λ i j p q e. apart-every (attributesOf s) .0 (inner .1) i j (inside p) (inside q) (tab-at i p ∙ e ∙ sym (tab-at j q));
@@ -68,9 +69,9 @@ module _ (r : Record) where
       let tests = passed (overLong (r .attributes .limit) (r .length)) (acceptable (r .attributes) (contents r)) h in
       (within-limit (r .attributes .limit) (r .length) (tests .0), tests .1)
 
-  contents-test : r .attributes .limit .0 ≤ 116 → r .length .0 ≤ r .attributes .limit .0 → numberOf (acceptable (r .attributes) (contents r)) ≡ none → numberOf (contentsAnswer r) ≡ none
+  contents-test : r .attributes .limit .0 ≤ mostOctets → r .length .0 ≤ r .attributes .limit .0 → numberOf (acceptable (r .attributes) (contents r)) ≡ none → numberOf (contentsAnswer r) ≡ none
   unfolding contentsAnswer
-  contents-test room h k = rw (not-over-long (r .attributes .limit) (r .length) (omega arith) h) k
+  contents-test in-range h k = rw (not-over-long (r .attributes .limit) (r .length) (omega arith) h) k
 
 module _ (s : Records) where
   sound-of : sound s ≡ true → Sound s
@@ -91,13 +92,13 @@ module _ (s : Records) where
   pub sound-means : (sound s ≡ true) ↔ Sound s
   sound-means = (sound-of, sound-test)
 
--- a record in use holds as many octets as its length says, and 116 at the most
+-- a record in use holds as many octets as its length says, and no more than its storage
 module _ (s : Records) (h : Sound s) (i : ℕ) (k : i < length (used s)) where
-  pub sound-room : recordAt s i .length .0 ≤ 116
-  sound-room = omega (arith, h .lengths i k, h .rules .octetLimits i k)
+  pub sound-fits : recordAt s i .length .0 ≤ mostOctets
+  sound-fits = omega (arith, h .lengths i k, h .rules .octetLimits i k)
 
-  pub sound-length : length (recordAt s i .storage) ≡ 116 → length (contents (recordAt s i)) ≡ recordAt s i .length .0
-  sound-length e = length-take-le (recordAt s i .length .0) (recordAt s i .storage) (omega (arith, sound-room))
+  pub sound-length : length (recordAt s i .storage) ≡ mostOctets → length (contents (recordAt s i)) ≡ recordAt s i .length .0
+  sound-length e = length-take-le (recordAt s i .length .0) (recordAt s i .storage) (omega (arith, sound-fits))
 
 pub empty-sound : Sound empty
 empty-sound =

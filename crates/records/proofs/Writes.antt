@@ -15,6 +15,7 @@ use Rattle.records.specs.declared.Attributes.{Attributes}
 use Rattle.records.specs.declared.Record.{Record}
 use Rattle.records.specs.declared.Records.{Records}
 use Rattle.records.specs.declared.Cause.{Cause}
+use Rattle.records.specs.Sizes.{mostOctets, mostCharacters}
 use Rattle.records.specs.Judging.{lengthOf, acceptable, contents}
 use Rattle.records.specs.Finding.{used, attributesOf, blank, recordAt}
 use Rattle.records.specs.Writing.{grant, hold, store, storeWhen, write}
@@ -79,8 +80,8 @@ module _ (s : Records) (cause : Cause) (t : ℕ) (d : List ℕ) (i : ℕ) (g : G
       record {
         few = h .few;
         apart = λ j k p q e. h .apart j k (before p) (before q) (sym (stored-tab j) ∙ e ∙ stored-tab k);
-        octetLimits = λ j p. after (λ r. r .attributes .limit .0 ≤ 116) j (λ e. h .octetLimits i grant-used) (h .octetLimits j (before p));
-        characterLimits = λ j p. after (λ r. characterLimit (r .attributes .kind) ≤ 116) j (λ e. h .characterLimits i grant-used) (h .characterLimits j (before p));
+        octetLimits = λ j p. after (λ r. r .attributes .limit .0 ≤ mostOctets) j (λ e. h .octetLimits i grant-used) (h .octetLimits j (before p));
+        characterLimits = λ j p. after (λ r. characterLimit (r .attributes .kind) ≤ mostCharacters) j (λ e. h .characterLimits i grant-used) (h .characterLimits j (before p));
       }
 
   stored-sound : Sound s → Sound (store s i d)

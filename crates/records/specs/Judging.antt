@@ -14,13 +14,14 @@ use Rattle.records.specs.declared.Kind.the-variants.{Raw, Label}
 use Rattle.records.specs.declared.Kind.{Kind}
 use Rattle.records.specs.declared.Attributes.{Attributes}
 use Rattle.records.specs.declared.Record.{Record}
+use Rattle.records.specs.Sizes.{mostOctets}
 
 abbrev pub lengthOf : List ℕ → Octets
 lengthOf d = inOctets (length d)
 
--- more octets than the limit allows, or than the 116 that any limit may allow
+-- more octets than the limit allows, or than any limit may allow
 abbrev pub overLong : Octets → Octets → Bool
-overLong limit octets = ltb 116 (octets .0) || ltb (limit .0) (octets .0)
+overLong limit octets = ltb mostOctets (octets .0) || ltb (limit .0) (octets .0)
 
 -- "well-formed UTF-8 (8) and within the character limit (9), in that order"
 abbrev pub textAnswer : Characters → Answer Characters → Answer Characters

@@ -12,6 +12,7 @@ use Rattle.records.specs.declared.Kind.{Kind}
 use Rattle.records.specs.declared.Attributes.{Attributes}
 use Rattle.records.specs.declared.Record.{Record}
 use Rattle.records.specs.declared.Records.{Records}
+use Rattle.records.specs.Sizes.{mostRecords, mostOctets, mostCharacters}
 use Rattle.records.specs.Judging.{acceptable, contents, contentsAnswer}
 use Rattle.records.specs.Finding.{used, attributesOf, blankAttributes, recordAt}
 
@@ -22,7 +23,7 @@ characterLimit (Label limit) = limit .0
 
 -- "limits in range"
 abbrev pub keepsLimits : Attributes → Bool
-keepsLimits a = leb (a .limit .0) 116 && leb (characterLimit (a .kind)) 116
+keepsLimits a = leb (a .limit .0) mostOctets && leb (characterLimit (a .kind)) mostCharacters
 
 unfoldable pub allKeepLimits : List Attributes → Bool
 allKeepLimits [] = true
@@ -40,7 +41,7 @@ tabsApart (a ∷ l) = not (present (a .tab) l) && tabsApart l
 
 -- "at most 32 records, no TAB twice, known kinds, limits in range (12)"; the type of a kind has no unknown one
 unfoldable pub keepsRules : Records → Bool
-keepsRules s = leb (s .count) 32 && tabsApart (attributesOf s) && allKeepLimits (attributesOf s)
+keepsRules s = leb (s .count) mostRecords && tabsApart (attributesOf s) && allKeepLimits (attributesOf s)
 
 -- the first of two numbers, unless it is none
 unfoldable pub first : ℕ → ℕ → ℕ
@@ -58,10 +59,10 @@ sound s = keepsRules s && eqb (contentsNumber (used s)) none
 
 -- what `keepsRules` tests, record by record
 pub record Rules (s : Records) : Type 0 where
-  pub few : s .count ≤ 32
+  pub few : s .count ≤ mostRecords
   pub apart : (i j : ℕ) → i < length (used s) → j < length (used s) → recordAt s i .attributes .tab ≡ recordAt s j .attributes .tab → i ≡ j
-  pub octetLimits : (i : ℕ) → i < length (used s) → recordAt s i .attributes .limit .0 ≤ 116
-  pub characterLimits : (i : ℕ) → i < length (used s) → characterLimit (recordAt s i .attributes .kind) ≤ 116
+  pub octetLimits : (i : ℕ) → i < length (used s) → recordAt s i .attributes .limit .0 ≤ mostOctets
+  pub characterLimits : (i : ℕ) → i < length (used s) → characterLimit (recordAt s i .attributes .kind) ≤ mostCharacters
 
 -- what `sound` tests, record by record: nothing else makes records unsound
 pub record Sound (s : Records) : Type 0 where
@@ -71,4 +72,4 @@ pub record Sound (s : Records) : Type 0 where
 
 -- no record is in use, and every octet is 0
 abbrev pub empty : Records
-empty = record { count = 0; each = replicate 32 (record { attributes = blankAttributes; length = record { 0 = 0 }; storage = replicate 116 0 }) }
+empty = record { count = 0; each = replicate mostRecords (record { attributes = blankAttributes; length = record { 0 = 0 }; storage = replicate mostOctets 0 }) }

@@ -1,17 +1,23 @@
 // The record that a TAB names.
 ghost use mathlib.Core.Path.{_≡_};
 ghost use Prim.Native.Nat.{min};
+ghost use Rattle.records.specs.Sizes.{mostRecords};
 ghost use Rattle.records.specs.Numbers.{answerOfFound};
 ghost use Rattle.records.specs.Finding.{attributesOf, find, findReadable};
 use crate::Found;
 use crate::Records;
 use crate::Refusal;
+use crate::sizes::MOST_RECORDS;
 
-// How many records are in use: a count over 32 breaks a setup rule, and there are 32 to use.
-pub(crate) fn in_use(count: usize) -> usize
-    ensures { λ r. ⌜ r ≡ min count 32 ⌝ }
+// How many records are in use: a count over the most breaks a setup rule, and there are no more to use.
+pub fn in_use(count: usize) -> usize
+    ensures { λ r. ⌜ r ≡ min count mostRecords ⌝ }
 {
-    if count < 32 { count } else { 32 }
+    if count < MOST_RECORDS {
+        count
+    } else {
+        MOST_RECORDS
+    }
 }
 
 impl Records {

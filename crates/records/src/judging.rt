@@ -9,6 +9,7 @@ use crate::Judged;
 use crate::Kind;
 use crate::Record;
 use crate::Refusal;
+use crate::sizes::MOST_OCTETS;
 use label::Text;
 use numbers::Characters;
 use numbers::Octets;
@@ -39,12 +40,12 @@ impl Answer {
     }
 }
 
-// A record has room for 116 octets, so that more are over-long even where the limit breaks a setup rule.
+// More octets than a record's storage are over-long even where the limit breaks a setup rule.
 fn over_long(limit: Octets, octets: Octets) -> bool
     ensures { λ r. ⌜ r ≡ overLong limit octets ⌝ }
 {
     let n = octets.0;
-    if 116 < n {
+    if MOST_OCTETS < n {
         return true;
     }
     limit.0 < n

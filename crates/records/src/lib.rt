@@ -2,10 +2,14 @@
 mod finding;
 mod judging;
 mod setup;
+pub mod sizes;
 mod writing;
 
+pub use finding::in_use;
 use numbers::Characters;
 use numbers::Octets;
+use sizes::MOST_OCTETS;
+use sizes::MOST_RECORDS;
 
 // A label has a limit on its characters; a raw record has none.
 pub enum Kind {
@@ -28,13 +32,13 @@ pub struct Attributes {
 pub struct Record {
     pub attributes: Attributes,
     pub length: Octets,
-    pub storage: [u8; 116],
+    pub storage: [u8; MOST_OCTETS],
 }
 
 // The first `count` records are in use. The others are free.
 pub struct Records {
     pub count: usize,
-    pub each: [Record; 32],
+    pub each: [Record; MOST_RECORDS],
 }
 
 // Why data, a read or a write is refused: 7, 8, 9, 10 and 11 of 01's table.

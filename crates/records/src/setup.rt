@@ -10,6 +10,9 @@ use crate::Kind;
 use crate::Record;
 use crate::Records;
 use crate::finding::in_use;
+use crate::sizes::MOST_CHARACTERS;
+use crate::sizes::MOST_OCTETS;
+use crate::sizes::MOST_RECORDS;
 use numbers::Octets;
 
 impl Attributes {
@@ -17,14 +20,14 @@ impl Attributes {
         ensures { λ r. ⌜ r ≡ keepsLimits self ⌝ }
     {
         let limit = self.limit;
-        if 116 < limit.0 {
+        if MOST_OCTETS < limit.0 {
             return false;
         }
         let kind = self.kind;
         let Kind::Label(characters) = kind else {
             return true;
         };
-        characters.0 <= 116
+        characters.0 <= MOST_CHARACTERS
     }
 }
 
@@ -68,7 +71,7 @@ impl Records {
     pub fn keeps_rules(self) -> bool
         ensures { λ r. ⌜ r ≡ keepsRules self ⌝ }
     {
-        if 32 < self.count {
+        if MOST_RECORDS < self.count {
             return false;
         }
         if !self.tabs_apart() {
@@ -120,13 +123,13 @@ impl Records {
             programming: false,
             transfer: false,
         };
-        let storage = [0u8; 116];
+        let storage = [0u8; MOST_OCTETS];
         let record = Record {
             attributes,
             length: Octets(0),
             storage,
         };
-        let each = [record; 32];
+        let each = [record; MOST_RECORDS];
         Records { count: 0, each }
     }
 }

@@ -2,6 +2,7 @@
 ghost use mathlib.Core.Path.{_≡_};
 ghost use Prim.Native.Nat.{_≤_, _<_};
 ghost use lib.ListN.{length};
+ghost use Rattle.records.specs.Sizes.{mostRecords, mostOctets};
 ghost use Rattle.records.specs.Numbers.{answerOfFound};
 ghost use Rattle.records.specs.Finding.{attributesOf};
 ghost use Rattle.records.specs.Writing.{opens, grant, hold, store, write, Writes};
@@ -33,7 +34,7 @@ impl Cause {
 impl Record {
     // The data over the front of the storage. The octets after it stay.
     fn hold(self, data: &[u8]) -> Record
-        requires { ⌜ length (now «data») ≤ 116 ⌝ }
+        requires { ⌜ length (now «data») ≤ mostOctets ⌝ }
         ensures { λ r. ⌜ r ≡ hold self (now («data» .entry)) ⌝ }
     {
         let attributes = self.attributes;
@@ -49,7 +50,7 @@ impl Record {
 
 impl Records {
     fn store(self, i: usize, data: &[u8]) -> Records
-        requires { ⌜ (i < 32) × (length (now «data») ≤ 116) ⌝ }
+        requires { ⌜ (i < mostRecords) × (length (now «data») ≤ mostOctets) ⌝ }
         ensures { λ r. ⌜ r ≡ store self i (now («data» .entry)) ⌝ }
     {
         let record = self.each[i];

@@ -48,8 +48,8 @@ module _ (s : List ℕ) (n i : ℕ) (h : numberFrom n (take (7 - i) (drop i s)) 
       rw (e, drop-cons s i 0 q, ← add-one i) at h
 
   -- what a turn makes fits
-  pub rank-room : ((j : ℕ) → getD s j 0 < 256) → i < 7 → i < length s → n * 256 + getD s i 0 < 2 ^ 56
-  rank-room b p q =
+  pub rank-fits : ((j : ℕ) → getD s j 0 < 256) → i < 7 → i < length s → n * 256 + getD s i 0 < 2 ^ 56
+  rank-fits b p q =
       omega (arith, rank-next p q, number-grows (n * 256 + getD s i 0) (take (7 - (i + 1)) (drop (i + 1) s)), rank-below s b)
 
   pub rank-done : 7 ≤ i → n ≡ rankOf (take 7 s)

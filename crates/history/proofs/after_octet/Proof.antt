@@ -5,6 +5,7 @@ use native.Mathlib.Omega.{arith}
 use lib.ListN.{replicate}
 use lib.Seq.{length-take-le}
 use Rattle.card.specs.Events.{afterOctet, after}
+use Rattle.history.specs.Encoding.{longestLent}
 use borrow.Author.Needs.{needs}
 use Rattle.history.proofs.after_octet.Statement.{statement}
 use Rattle.history.proofs.after_octet.Tie as tie
@@ -14,8 +15,8 @@ array-borrow-prefix-buffer c = search needs
 
 slice-aggregate-octet : tie.Need-slice-aggregate-octet
 slice-aggregate-octet c =
-    let short : c .before .before .args .reply ≤ 255 = omega arith in
-    sym (length-take-le (c .before .before .args .reply) (replicate 255 0) short)
+    let short : c .before .before .args .reply ≤ longestLent = omega arith in
+    sym (length-take-le (c .before .before .args .reply) (replicate longestLent 0) short)
 
 octet-requires : tie.Need-octet-requires
 octet-requires c κs = search needs
@@ -24,9 +25,9 @@ returns : tie.Need-returns
 unfolding after
 returns c =
     let s = c .before .before .before .before .before in
-    let short : s .args .reply ≤ 255 = omega arith in
+    let short : s .args .reply ≤ longestLent = omega arith in
     c .before .before .octet .ensures .card
-    ∙ ap (λ (n : ℕ). afterOctet (s .args .card) (s .args .octet) (record { na2 = s .args .na2 .now; reply = n }) .card) (length-take-le (s .args .reply) (replicate 255 0) short)
+    ∙ ap (λ (n : ℕ). afterOctet (s .args .card) (s .args .octet) (record { na2 = s .args .na2 .now; reply = n }) .card) (length-take-le (s .args .reply) (replicate longestLent 0) short)
 
 pub after-octet-spec : {M : Type 1} → statement M
 after-octet-spec =

@@ -4,11 +4,12 @@ use native.Mathlib.Omega.{arith}
 use lib.ListN.{length}
 use lib.Seq.{length-take-le}
 use borrow.Author.Needs.{needs}
+use Rattle.frame.specs.Sizes.{longestFrame}
 use Rattle.card.proofs.Amounts.{good-data}
 use Rattle.card.proofs.Card.heard_frame.Statement.{statement}
 use Rattle.card.proofs.Card.heard_frame.Tie as tie
 
-long : (s : tie.Start) → length (s .args .t4) ≡ 128
+long : (s : tie.Start) → length (s .args .t4) ≡ longestFrame
 long s = s .good .1 .1 .1 .0 .1 .0 .1
 
 array-read-end : tie.Need-array-read-end

@@ -4,6 +4,7 @@ use lib.ListN.{replicate}
 use borrow.Author.Needs.{needs}
 use borrow.Author.Tests.{not-false}
 use Rattle.octets.proofs.Splice.{spliced-whole}
+use Rattle.frame.specs.Sizes.{numberWidth}
 use Rattle.card.proofs.Soundness.{sound-means}
 use Rattle.card.proofs.Giving.{gives-by, silent-by}
 use Rattle.card.proofs.Receptions.{wrong-number, wrong-buffer, broken-card, octet-made}
@@ -47,7 +48,7 @@ returns-4 : tie.Need-returns-4
 returns-4 c =
     let s = c .before .before .before .before .before .before .before .before .before .before .before in
     let eight = c .before .before .before .before .before .before .before .before .if1 .left in
-    let lent = c .before .before .before .before .eight .ensures ∙ spliced-whole (replicate 8 0) (s .args .na2 .now) eight in
+    let lent = c .before .before .before .before .eight .ensures ∙ spliced-whole (replicate numberWidth 0) (s .args .na2 .now) eight in
     gives-by (octet-made _ _ _ eight (c .before .before .before .before .before .before .before .if2 .left) (c .before .before .before .before .before .before .sound .result) (c .before .before .before .before .before .before .sound .ensures) (c .before .before .before .before .before .if3 .left))
     (rw lent at (c .before .before .heard .ensures))
 

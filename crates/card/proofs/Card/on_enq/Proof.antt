@@ -7,6 +7,7 @@ use borrow.Author.Needs.{needs}
 use Rattle.octets.specs.Between.{between}
 use Rattle.frame.specs.Layout.{layoutOf, within}
 use Rattle.numbers.specs.Answer.{given}
+use Rattle.records.specs.Sizes.{mostRecords, mostOctets}
 use Rattle.records.specs.Numbers.{answerOfFound}
 use Rattle.records.specs.Finding.{attributesOf, find, recordAt}
 use Rattle.records.proofs.Grants.{readable-means}
@@ -22,10 +23,10 @@ module _ (c : tie.After-known-told) where
   found : find (attributesOf (c .before .before .before .before .before .before .before .args .self .records)) (c .before .before .before .before .before .before .before .args .fields .tab) ≡ given (c .before .found .given .0 .0)
   found = readable-means _ _ _ (sym (c .before .before .before .find-readable .ensures) ∙ ap answerOfFound (c .before .found .given .1)) .0
 
-  inside : c .before .found .given .0 .0 < 32
+  inside : c .before .found .given .0 .0 < mostRecords
   inside = found-element (c .before .before .before .before .before .before .before .args .self .records) _ (c .before .before .before .before .before .before .before .good .0 .1 .1 .1 .0) _ _ found
 
-  short : recordAt (c .before .before .before .before .before .before .before .args .self .records) (c .before .found .given .0 .0) .length .0 ≤ 116
+  short : recordAt (c .before .before .before .before .before .before .before .args .self .records) (c .before .found .given .0 .0) .length .0 ≤ mostOctets
   short =
       let s = c .before .before .before .before .before .before .before .pre .0 .records in
       let used = found-used (c .before .before .before .before .before .before .before .args .self .records) _ _ found in

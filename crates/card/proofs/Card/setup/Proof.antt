@@ -3,6 +3,7 @@ use lib.ListN.{replicate}
 use borrow.Author.Needs.{needs}
 use borrow.Author.Tests.{eq-eqb, ne-eqb}
 use Rattle.octets.proofs.Splice.{spliced-whole}
+use Rattle.frame.specs.Sizes.{addressWidth, numberWidth}
 use Rattle.card.specs.Setup.{afterSetup}
 use Rattle.card.proofs.Card.setup.Statement.{statement}
 use Rattle.card.proofs.Card.setup.Tie as tie
@@ -34,7 +35,7 @@ returns-3 : tie.Need-returns-3
 unfolding afterSetup
 returns-3 c =
     let s = c .before .before .before .before .before .before .before in
-    rw (eq-eqb _ _ (c .before .before .before .before .if1 .left), eq-eqb _ _ (c .before .before .before .if2 .left), ← spliced-whole (replicate 6 0) (s .args .address .now) (c .before .before .before .before .if1 .left), ← spliced-whole (replicate 8 0) (s .args .key .now) (c .before .before .before .if2 .left), ← c .before .before .six .ensures, ← c .before .eight .ensures)
+    rw (eq-eqb _ _ (c .before .before .before .before .if1 .left), eq-eqb _ _ (c .before .before .before .if2 .left), ← spliced-whole (replicate addressWidth 0) (s .args .address .now) (c .before .before .before .before .if1 .left), ← spliced-whole (replicate numberWidth 0) (s .args .key .now) (c .before .before .before .if2 .left), ← c .before .before .six .ensures, ← c .before .eight .ensures)
     (c .admitted .ensures)
 
 pub setup-spec : {M : Type 1} → statement M

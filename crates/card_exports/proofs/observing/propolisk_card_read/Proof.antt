@@ -5,6 +5,7 @@ use mathlib.Core.Bool.{true}
 use denote.Ref.{now}
 use borrow.Author.Tests.{lt-leb, le-leb, not-true, not-false}
 use Rattle.numbers.specs.Answer.{Answer}
+use Rattle.records.specs.Sizes.{mostRecords}
 use Rattle.records.specs.Numbers.{answerOfFound}
 use Rattle.records.specs.Finding.{attributesOf, find}
 use Rattle.card.specs.declared.Card.{Card}
@@ -28,7 +29,7 @@ sound-there c =
     legible-sound _ (sym (d .before .before .legible .ensures) ∙ not-false _ (d .before .if2 .left))
     ∙ ap sound (sym (d .decode .ensures)) ∙ sym (c .before .sound .ensures) ∙ not-false _ (c .if3 .left)
 
-inside : (c : tie.After-known-told2) → c .before .found2 .given .0 .0 < 32
+inside : (c : tie.After-known-told2) → c .before .found2 .given .0 .0 < mostRecords
 inside c =
     let g = c .before .before .before in
     found-inside _ (g .before .before .before .before .before .before .before .if1 .left) _ _ (found-there g _ (ap answerOfFound (c .before .found2 .given .1)))

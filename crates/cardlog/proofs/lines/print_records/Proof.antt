@@ -1,14 +1,15 @@
--- `print_records` is safe and ends: a card has 32 records, and the rest of them falls by one a turn.
+-- `print_records` is safe and ends: a card has so many records, and the rest of them falls by one a turn.
 use Prim.Native.Nat.{_-_, _≤_}
 use borrow.Author.Needs.{needs}
+use Rattle.records.specs.Sizes.{mostRecords}
 use Rattle.cardlog.proofs.lines.print_records.Statement.{statement}
 use Rattle.cardlog.proofs.lines.print_records.Tie as tie
 
 abbrev Inv-loop : tie.InvT-loop
-Inv-loop records i₀ i = i ≤ 32
+Inv-loop records i₀ i = i ≤ mostRecords
 
 abbrev μ-loop : tie.MeasureT-loop
-μ-loop records i₀ i = 32 - i
+μ-loop records i₀ i = mostRecords - i
 
 loop-holds : tie.Need-loop-holds Inv-loop μ-loop
 loop-holds c = search needs

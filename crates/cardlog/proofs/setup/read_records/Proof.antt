@@ -1,4 +1,4 @@
--- `read_records` is safe and ends: at most 32 records are read, and their offsets are small.
+-- `read_records` is safe and ends: no more records are read than a card has, and their offsets are small.
 use Prim.Native.Nat.{_-_, _≤_}
 use borrow.Author.Needs.{needs}
 use Rattle.cardlog.proofs.setup.read_records.Statement.{statement}

@@ -4,8 +4,6 @@ use borrow.Author.Tests.{lt-leb, le-leb}
 use Rattle.records.proofs.Attributes.keeps_limits.Statement.{statement}
 use Rattle.records.proofs.Attributes.keeps_limits.Tie as tie
 
--- `keeps_limits` tests the octet limit and then the character limit, as its definition does.
-
 returns : tie.Need-returns
 returns c = rw (lt-leb _ _ (c .if1 .taken))
 

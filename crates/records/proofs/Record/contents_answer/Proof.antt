@@ -6,7 +6,7 @@ use lib.ListN.{length}
 use lib.Seq.{length-take-le}
 use borrow.Author.Needs.{needs}
 use Rattle.records.specs.Judging.{contentsAnswer}
-use Rattle.records.proofs.Limits.{within-room}
+use Rattle.records.proofs.Limits.{within-storage}
 use Rattle.records.proofs.Shape.{storage-length}
 use Rattle.records.proofs.Record.contents_answer.Statement.{statement}
 use Rattle.records.proofs.Record.contents_answer.Tie as tie
@@ -15,7 +15,7 @@ use Rattle.records.proofs.Record.contents_answer.Tie as tie
 bounded : (c : tie.Else1) → c .before .before .before .before .before .args .self .length .0 ≤ length (c .before .before .before .before .before .args .self .storage)
 bounded c =
     let s = c .before .before .before .before .before in
-    omega (arith, within-room (s .args .self .attributes .limit) (s .args .self .length) (sym (c .before .over-long .ensures) ∙ c .if1 .left), storage-length (s .args .self) _ (s .good .0))
+    omega (arith, within-storage (s .args .self .attributes .limit) (s .args .self .length) (sym (c .before .over-long .ensures) ∙ c .if1 .left), storage-length (s .args .self) _ (s .good .0))
 
 over-long-requires : tie.Need-over-long-requires
 over-long-requires c κs = search needs

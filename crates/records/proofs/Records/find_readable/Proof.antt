@@ -3,6 +3,7 @@ use Prim.Native.Nat.{_<_}
 use mathlib.Core.Path.{_≡_, sym, ap, _∙_}
 use borrow.Author.Needs.{needs}
 use Rattle.numbers.specs.Answer.{given}
+use Rattle.records.specs.Sizes.{mostRecords}
 use Rattle.records.specs.Numbers.{answerOfFound}
 use Rattle.records.specs.Finding.{attributesOf, find}
 use Rattle.records.proofs.Places.{readable-at, readable-none}
@@ -14,7 +15,7 @@ use Rattle.records.proofs.Records.find_readable.Tie as tie
 place : (c : tie.After-found) → find (attributesOf (c .before .before .before .args .t1)) (c .before .before .before .args .tab) ≡ given (c .found .given .0 .0)
 place c = sym (c .before .before .find .ensures) ∙ ap answerOfFound (c .found .given .1)
 
-below : (c : tie.After-found) → c .found .given .0 .0 < 32
+below : (c : tie.After-found) → c .found .given .0 .0 < mostRecords
 below c =
     let a = c .before .before .before in
     found-element (a .args .t1) _ (a .good .0) (a .args .tab) (c .found .given .0 .0) (place c)
@@ -34,7 +35,7 @@ returns c =
     missing ∙ sym (readable-none _ _ _ (sym (c .before .before .find .ensures) ∙ missing))
 
 mul-record : tie.Need-mul-record
-mul-record c = let h : c .before .found .given .0 .0 < 32 = below (c .before) in search needs
+mul-record c = let h : c .before .found .given .0 .0 < mostRecords = below (c .before) in search needs
 
 element-copy-out-record : tie.Need-element-copy-out-record
 element-copy-out-record c = below (c .before)

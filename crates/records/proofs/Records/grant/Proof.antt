@@ -4,6 +4,7 @@ use mathlib.Core.Path.{_≡_, sym, ap, _∙_}
 use borrow.Author.Needs.{needs}
 use borrow.Author.Tests.{not-true, not-false}
 use Rattle.numbers.specs.Answer.{given, whenGiven}
+use Rattle.records.specs.Sizes.{mostRecords}
 use Rattle.records.specs.Numbers.{answerOfFound}
 use Rattle.records.specs.Finding.{attributesOf, find}
 use Rattle.records.specs.Writing.{grantAt}
@@ -16,7 +17,7 @@ use Rattle.records.proofs.Records.grant.Tie as tie
 place : (c : tie.After-found) → find (attributesOf (c .before .before .before .before .args .t1)) (c .before .before .before .before .args .tab) ≡ given (c .found .given .0 .0)
 place c = sym (c .before .before .find .ensures) ∙ ap answerOfFound (c .found .given .1)
 
-below : (c : tie.After-found) → c .found .given .0 .0 < 32
+below : (c : tie.After-found) → c .found .given .0 .0 < mostRecords
 below c =
     let a = c .before .before .before .before in
     found-element (a .args .t1) _ (a .good .0) (a .args .tab) (c .found .given .0 .0) (place c)
@@ -36,7 +37,7 @@ returns c =
     missing ∙ sym (granted-none _ _ _ (sym (c .before .before .find .ensures) ∙ missing) _ _)
 
 mul-record : tie.Need-mul-record
-mul-record c = let h : c .before .found .given .0 .0 < 32 = below (c .before) in search needs
+mul-record c = let h : c .before .found .given .0 .0 < mostRecords = below (c .before) in search needs
 
 element-copy-out-record : tie.Need-element-copy-out-record
 element-copy-out-record c = below (c .before)

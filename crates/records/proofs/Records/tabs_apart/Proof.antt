@@ -5,6 +5,7 @@ use mathlib.Core.Path.{_≡_, refl, sym, _∙_}
 use native.Mathlib.Omega.{arith}
 use lib.ListN.{length-set, length, drop}
 use borrow.Author.Needs.{needs}
+use Rattle.records.specs.Sizes.{mostRecords}
 use Rattle.records.specs.Finding.{used, attributesOf}
 use Rattle.records.specs.Setup.{tabsApart}
 use Rattle.records.proofs.Shape.{in-use-length}
@@ -13,7 +14,7 @@ use Rattle.records.proofs.Records.tabs_apart.Statement.{statement}
 use Rattle.records.proofs.Records.tabs_apart.Tie as tie
 
 abbrev Inv-loop : tie.InvT-loop
-Inv-loop self seen₀ i₀ seen i = (i ≤ length (used self)) × (i ≤ 32) × (length seen ≡ 256) × (tabsApart (drop i (attributesOf self)) ≡ true) × Marked seen (drop i (attributesOf self))
+Inv-loop self seen₀ i₀ seen i = (i ≤ length (used self)) × (i ≤ mostRecords) × (length seen ≡ 256) × (tabsApart (drop i (attributesOf self)) ≡ true) × Marked seen (drop i (attributesOf self))
 
 abbrev μ-loop : tie.MeasureT-loop
 μ-loop self seen₀ i₀ seen i = i

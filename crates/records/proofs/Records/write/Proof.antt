@@ -5,7 +5,7 @@ use Rattle.records.specs.Numbers.{answerOfFound}
 use Rattle.records.specs.Finding.{attributesOf}
 use Rattle.records.specs.Writing.{storeWhen}
 use Rattle.records.proofs.Grants.{granted-means}
-use Rattle.records.proofs.Limits.{accepted-room}
+use Rattle.records.proofs.Limits.{accepted-fits}
 use Rattle.records.proofs.Shape.{found-element}
 use Rattle.records.proofs.Records.write.Statement.{statement}
 use Rattle.records.proofs.Records.write.Tie as tie
@@ -22,7 +22,7 @@ store-requires c κs =
     let s = a .args .self in
     let i = c .before .granted .given .0 .0 in
     let given = granted-means (attributesOf s) (a .args .cause) (a .args .tab) (a .args .«data» .now) i .0 (sym (c .before .before .before .grant .ensures) ∙ ap answerOfFound (c .before .granted .given .1)) in
-    (found-element s _ (a .good .0) (a .args .tab) i (given .exists), accepted-room _ _ (given .accepted))
+    (found-element s _ (a .good .0) (a .args .tab) i (given .exists), accepted-fits _ _ (given .accepted))
 
 enum-known-granted-2 : tie.Need-enum-known-granted-2
 enum-known-granted-2 c = search needs

@@ -1,9 +1,7 @@
--- `over_long` tests 116 and then the limit, as its definition does.
+-- `over_long` tests the storage and then the limit, as its definition does.
 use borrow.Author.Tests.{lt-ltb, le-ltb}
 use Rattle.records.proofs.judging.over_long.Statement.{statement}
 use Rattle.records.proofs.judging.over_long.Tie as tie
-
--- `over_long` tests 116 and then the limit, as its definition does.
 
 returns : tie.Need-returns
 returns c = rw (lt-ltb _ _ (c .if1 .taken))

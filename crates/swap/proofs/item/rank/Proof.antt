@@ -5,7 +5,7 @@ use lib.ListN.{getD, take, drop}
 use lib.Dec.{lit≤}
 use denote.Ref.{now}
 use Rattle.swap.specs.Record.{numberFrom, rankOf}
-use Rattle.swap.proofs.Ranks.{rank-cut, rank-next, rank-room, rank-done}
+use Rattle.swap.proofs.Ranks.{rank-cut, rank-next, rank-fits, rank-done}
 use borrow.Author.Needs.{needs}
 use native.Mathlib.Omega.{arith}
 use Rattle.swap.proofs.item.rank.Statement.{statement}
@@ -28,7 +28,7 @@ mul-number : tie.Need-mul-number Inv-loop μ-loop
 mul-number c =
     let l = c .before .before .loop in
     let octets : (j : ℕ) → getD (now (c .before .before .before .before .args .octets)) j 0 < 256 = λ j. c .before .before .before .shared-slice-known .given j .fits in
-    omega (arith, rank-room (now (c .before .before .before .before .args .octets)) (l .number) (l .i) (l .inv .1) octets (c .before .loop-test .taken) (c .if1 .left))
+    omega (arith, rank-fits (now (c .before .before .before .before .args .octets)) (l .number) (l .i) (l .inv .1) octets (c .before .loop-test .taken) (c .if1 .left))
 
 shared-slice-read-wide : tie.Need-shared-slice-read-wide Inv-loop μ-loop
 shared-slice-read-wide c = search needs
@@ -40,7 +40,7 @@ add-number : tie.Need-add-number Inv-loop μ-loop
 add-number c =
     let l = c .before .before .before .before .loop in
     let octets : (j : ℕ) → getD (now (c .before .before .before .before .before .before .args .octets)) j 0 < 256 = λ j. c .before .before .before .before .before .shared-slice-known .given j .fits in
-    omega (arith, c .wide .ensures, rank-room (now (c .before .before .before .before .before .before .args .octets)) (l .number) (l .i) (l .inv .1) octets (c .before .before .before .loop-test .taken) (c .before .before .if1 .left))
+    omega (arith, c .wide .ensures, rank-fits (now (c .before .before .before .before .before .before .args .octets)) (l .number) (l .i) (l .inv .1) octets (c .before .before .before .loop-test .taken) (c .before .before .if1 .left))
 
 add-i : tie.Need-add-i Inv-loop μ-loop
 add-i c = search needs
