@@ -49,19 +49,19 @@ pub passed-made : (m : List ℕ) (k : Call) → Passed m k → Unmade (after (de
 passed-made m k p (inl e) = course (decoded m) (p .whole) k .unbroken e
 passed-made m k p (inr e) = omega (arith, e, lent-made (decoded m) (p .sound) k (p .lent))
 
-pub call-unmade : (m : List ℕ) (k : Call) → Unmade (callOutcome m k .number) → callOutcome m k ≡ outcome.refused (callOutcome m k .number) m
+pub call-unmade : (m : List ℕ) (k : Call) → Unmade (callOutcome m k .number) → callOutcome m k ≡ record { number = callOutcome m k .number; memory = m }
 unfolding callOutcome
 call-unmade m k = go (lengthsFit m k) (soundMemory m) refl refl
   where
     go : (x y : Bool) → lengthsFit m k ≡ x → soundMemory m ≡ y
         → let r = cond x (cond y (done m (after (decoded m) k)) (outcome.refused brokenRule m)) (outcome.refused wrongLength m) in
-        Unmade (r .number) → r ≡ outcome.refused (r .number) m
+        Unmade (r .number) → r ≡ record { number = r .number; memory = m }
     go true true e s u = absurd (passed-made m k (call-passed m k e s) u)
     go true false e s u = refl
     go false y e s u = refl
 
 -- an octet leaves the reply buffer and the cell too
-pub octet-unmade : (m : List ℕ) (o : ℕ) (na2 reply : List ℕ) (cell : ℕ) → Unmade (octetOutcome m o na2 reply cell .number) → octetOutcome m o na2 reply cell ≡ unreplied (octetOutcome m o na2 reply cell .number) m reply cell
+pub octet-unmade : (m : List ℕ) (o : ℕ) (na2 reply : List ℕ) (cell : ℕ) → Unmade (octetOutcome m o na2 reply cell .number) → octetOutcome m o na2 reply cell ≡ record { number = octetOutcome m o na2 reply cell .number; memory = m; reply = reply; length = cell }
 unfolding octetOutcome after
 octet-unmade m o na2 reply cell = go (lengthsFit m k) (soundMemory m) refl refl
   where
@@ -70,7 +70,7 @@ octet-unmade m o na2 reply cell = go (lengthsFit m k) (soundMemory m) refl refl
 
     go : (x y : Bool) → lengthsFit m k ≡ x → soundMemory m ≡ y
         → let r = cond x (cond y (replied m reply (afterOctet (decoded m) o (lending na2 reply))) (unreplied brokenRule m reply cell)) (unreplied wrongLength m reply cell) in
-        Unmade (r .number) → r ≡ unreplied (r .number) m reply cell
+        Unmade (r .number) → r ≡ record { number = r .number; memory = m; reply = reply; length = cell }
     go true true e s u = absurd (passed-made m k (call-passed m k e s) u)
     go true false e s u = refl
     go false y e s u = refl
@@ -101,7 +101,7 @@ module _ (m : List ℕ) (t : ℕ) (before : List ℕ) (cell : ℕ) where
       go true false f k = refl
       go false y f k = refl
 
-  pub read-unmade : Unmade (readOutcome m t before cell .number) → readOutcome m t before cell ≡ unshown (readOutcome m t before cell .number) before cell
+  pub read-unmade : Unmade (readOutcome m t before cell .number) → readOutcome m t before cell ≡ record { number = readOutcome m t before cell .number; shown = before; length = cell }
   unfolding readOutcome shownFor
   read-unmade = go (leb size (length m)) (soundMemory m) (find (attributesOf (decoded m .records)) t) (find-bounded (attributesOf (decoded m .records)) t)
     where
@@ -110,7 +110,7 @@ module _ (m : List ℕ) (t : ℕ) (before : List ℕ) (cell : ℕ) where
       never n h (inr e) = omega arith
 
       go : (x y : Bool) (f : Answer ℕ) → Bounded f
-          → let r = cond x (cond y (shownFor f (decoded m) before) (unshown brokenRule before cell)) (unshown wrongLength before cell) in Unmade (r .number) → r ≡ unshown (r .number) before cell
+          → let r = cond x (cond y (shownFor f (decoded m) before) (unshown brokenRule before cell)) (unshown wrongLength before cell) in Unmade (r .number) → r ≡ record { number = r .number; shown = before; length = cell }
       go true true (refused n) h u = absurd (never n (h .1) u)
       go true true (refusedAt n offset) h u = absurd h
       go true true (given i) h u = absurd (never none (omega arith) u)

@@ -9,3 +9,4 @@ pub mod Held
 pub mod EncodableCards
 pub mod FreshMemory
 pub mod Front
+pub mod Offsets

@@ -3,6 +3,7 @@ pub mod InUse
 pub mod Limits
 pub mod Places
 pub mod Refusals
+mod SetupLimits
 pub mod Shape
 pub mod Soundness
 mod Tests

@@ -5,6 +5,7 @@ pub mod KindOctets
 mod Cursors
 pub mod Parts
 mod Judging
+mod Limits
 pub mod RoundTrip
 mod Searching
 pub mod Shown
