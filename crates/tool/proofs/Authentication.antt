@@ -1,17 +1,14 @@
 -- AUT is sent only after an ECH with NA1 enciphered and with the TAB and DATA sent; over lists of calls these are those of the latest request.
 use Prim.Native.Nat.{ℕ}
-use mathlib.Core.Path.{_≡_, refl, sym, ap, _∙_}
-use mathlib.Core.Bool.{Bool, true, false, _&&_}
+use mathlib.Core.Path.{_≡_, sym, ap, _∙_}
+use mathlib.Core.Bool.{true, false}
 use mathlib.Core.List.{List, []}
 use mathlib.Core.Logic.{_⊎_, inl, inr}
-use lib.Dec.{eqb}
-use borrow.Author.Tests.{eqb-true}
 use Rattle.octets.specs.Part.{same}
 use Rattle.octets.proofs.Impossible.{impossible}
-use Rattle.octets.proofs.Same.{same-equal}
+use Rattle.des.specs.Des.{encipher}
 use Rattle.frame.specs.declared.codes.Command.{Command}
 use Rattle.frame.specs.declared.codes.Command.the-variants as codes
-use Rattle.frame.specs.declared.content.Fields.{Fields}
 use Rattle.frame.specs.Content.{fieldsOf, dataOf}
 use Rattle.frame.specs.Building.{frameOctets}
 use Rattle.receiver.specs.Receiving.{Reception, Complete, onOctet}
@@ -20,13 +17,14 @@ use Rattle.wake.specs.declared.Wake.the-variants.{None}
 use Rattle.tool.specs.declared.Tool.{Tool}
 use Rattle.tool.specs.declared.replies.Reply.the-variants.{Ech}
 use Rattle.tool.specs.Parts.{fresh, Response}
-use Rattle.tool.specs.Replies.{replyOf, authentication, expected}
+use Rattle.tool.specs.Requests.{Asking, zeroNumber, fieldsTo}
+use Rattle.tool.specs.Replies.{authentication}
 use Rattle.tool.specs.Events.{Call, Octet, after}
 use Rattle.tool.specs.Log.{Log, freshLog, leftAfter, logAfter}
+use Rattle.tool.specs.Reasons.{From, Echo}
 use Rattle.tool.specs.Claims.{Authenticates}
-use Rattle.tool.proofs.Endings.{Runs, Echo}
-use Rattle.tool.proofs.Courses.{isEvent, rule, Course, stays, asks, passes, drops, ends, fails, echoes, course}
-use Rattle.tool.proofs.Logging.{Programs, Agrees, fresh-agrees, calls-agree}
+use Rattle.tool.proofs.Courses.{isEvent, Course, stays, asks, passes, drops, ends, fails, echoes, course}
+use Rattle.tool.proofs.Logging.{programs, Agrees, fresh-agrees, calls-agree}
 
 -- The octet completes an ECH from the station of the running request for its ADP, ZA1 = DES(Ki, NA1), TAB and DATA are those sent, and the frame sent
 -- is AUT with zero in ZA1 and DES(Ki, ECH's ZA2) in ZA2.
@@ -34,7 +32,7 @@ pub record Echoed (t : Tool) (o : ℕ) (frame : List ℕ) : Type 0 where
   pub command : Command
   pub octets : List ℕ
   pub complete : onOctet o (receptionOf (t .receiver)) .outcome ≡ Complete command octets
-  pub runs : Runs t (fieldsOf command octets)
+  pub answers : From t (fieldsOf command octets)
   pub echo : Echo t command (fieldsOf command octets) (dataOf command octets)
   pub sends : frame ≡ frameOctets codes.Aut (authentication t (fieldsOf command octets .za2)) []
 
@@ -48,65 +46,45 @@ sends t o l r (passes v e) = inl (frame-of e)
 sends t o l r (drops v n f e) = inl (frame-of e)
 sends t o l r (ends v i d e) = inl (frame-of e)
 sends t o l r (fails v i n f e) = inl (frame-of e)
-sends t o l r (echoes v c s u w h e) = inr (record { command = c; octets = s; complete = u; runs = w; echo = h; sends = frame-of e })
+sends t o l r (echoes v c s u w h e) = inr (record { command = c; octets = s; complete = u; answers = w; echo = h; sends = frame-of e })
 
 -- "only then is AUT sent", of every tool: an octet sends nothing, or it authenticates
 pub aut-only-then : (t : Tool) (o l : ℕ) → (after t (Octet o l) .frame ≡ []) ⊎ Echoed t o (after t (Octet o l) .frame)
 aut-only-then t o l = sends t o l (after t (Octet o l)) (course t (Octet o l))
 
-echo-command : (c : Command) → replyOf c ≡ Ech → c ≡ codes.Ech
-echo-command codes.Enq e = impossible (cc)
-echo-command codes.Dat e = impossible (cc)
-echo-command codes.Rec e = impossible (cc)
-echo-command codes.Ech e = refl
-echo-command codes.Aut e = impossible (cc)
-echo-command codes.Eos e = impossible (cc)
-echo-command codes.Aso e = impossible (cc)
-echo-command codes.Rso e = impossible (cc)
-echo-command codes.Ib e = impossible (cc)
-echo-command codes.Drj e = impossible (cc)
-echo-command codes.Arj e = impossible (cc)
-echo-command codes.Trf e = impossible (cc)
-echo-command codes.Trb e = impossible (cc)
-echo-command codes.Tra e = impossible (cc)
-echo-command codes.Pre e = impossible (cc)
-echo-command codes.Sel e = impossible (cc)
+-- a tool that keeps what a programming request asks for
+module _ (t : Tool) (q : Asking) (key : t .key ≡ q .key) where
+  same-cipher : t .na1 ≡ q .na1 → encipher (t .key) (t .na1) ≡ encipher (q .key) (q .na1)
+  same-cipher n = rw (key, n)
 
--- from that station, for that ADP
-expected-from : (t : Tool) (f : Fields) → expected t f ≡ true → (f .ads ≡ t .ads) × (f .adp ≡ t .adp)
-unfolding expected
-expected-from t f = go (same (f .ads) (t .ads)) (eqb (f .adp) (t .adp)) refl refl
-  where
-    go : (a b : Bool) → same (f .ads) (t .ads) ≡ a → eqb (f .adp) (t .adp) ≡ b → (a && b) ≡ true → (f .ads ≡ t .ads) × (f .adp ≡ t .adp)
-    go true true p q e = (same-equal _ _ p, eqb-true _ _ q)
-    go true false p q e = impossible (cc)
-    go false b p q e = impossible (cc)
+  same-aut : (na2 : List ℕ) → t .ads ≡ q .ads → t .adp ≡ q .adp
+      → frameOctets codes.Aut (authentication t na2) [] ≡ frameOctets codes.Aut (fieldsTo (q .ads) (q .adp) 0 zeroNumber (encipher (q .key) na2)) []
+  same-aut na2 a p = rw (key, a, p)
 
 -- ECH heard by a tool that agrees with the log
 module _ (t : Tool) (l : Log) (k : Agrees t l) (o : ℕ) (frame s : List ℕ) where
-  tied : onOctet o (receptionOf (t .receiver)) .outcome ≡ Complete codes.Ech s → Runs t (fieldsOf codes.Ech s) → Echo t codes.Ech (fieldsOf codes.Ech s) (dataOf codes.Ech s)
+  tied : onOctet o (receptionOf (t .receiver)) .outcome ≡ Complete codes.Ech s → From t (fieldsOf codes.Ech s) → Echo t codes.Ech (fieldsOf codes.Ech s) (dataOf codes.Ech s)
       → frame ≡ frameOctets codes.Aut (authentication t (fieldsOf codes.Ech s .za2)) [] → Authenticates l o frame
   tied u w h e =
-      let p = k .programming (h .tab) (h .count) (h .phase) in
-      let from = expected-from t (fieldsOf codes.Ech s) (w .answered) in
+      let p = programs t (l .latest) (t .phase) (h .tab) (h .count) (h .phase) (k .marked) in
       record {
-        asking = p .asking;
-        latest = p .last;
-        programs = p .request;
+        asking = p .0 .asking;
+        latest = p .0 .last;
+        programs = p .0 .request;
         octets = s;
         complete = sym (ap (λ (g : Reception). onOctet o g .outcome) (k .reception)) ∙ u;
-        station = from .0 ∙ p .ads;
-        primary = from .1 ∙ p .adp;
-        cipher = h .cipher ∙ rw (p .key, p .na1);
-        tab = h .same-tab ∙ p .same-tab;
-        content = h .same-data ∙ p .sent;
-        sends = e ∙ rw (p .ads, p .adp, p .key);
+        station = w .station ∙ p .0 .station;
+        primary = w .primary ∙ p .0 .primary;
+        cipher = h .cipher ∙ same-cipher t (p .0 .asking) (p .1 .same-key) (p .1 .same-na1);
+        tab = h .same-tab ∙ p .1 .same-tab;
+        content = h .same-data ∙ p .1 .same-content;
+        sends = e ∙ same-aut t (p .0 .asking) (p .1 .same-key) (fieldsOf codes.Ech s .za2) (p .0 .station) (p .0 .primary);
       }
 
 tied-at : (t : Tool) (l : Log) (o : ℕ) (frame : List ℕ) → Agrees t l → Echoed t o frame → Authenticates l o frame
-tied-at t l o frame k g = go (g .command) (echo-command (g .command) (g .echo .command)) (g .complete) (g .runs) (g .echo) (g .sends)
+tied-at t l o frame k g = go (g .command) (g .echo .command) (g .complete) (g .answers) (g .echo) (g .sends)
   where
-    go : (c : Command) → c ≡ codes.Ech → onOctet o (receptionOf (t .receiver)) .outcome ≡ Complete c (g .octets) → Runs t (fieldsOf c (g .octets))
+    go : (c : Command) → c ≡ codes.Ech → onOctet o (receptionOf (t .receiver)) .outcome ≡ Complete c (g .octets) → From t (fieldsOf c (g .octets))
         → Echo t c (fieldsOf c (g .octets)) (dataOf c (g .octets)) → frame ≡ frameOctets codes.Aut (authentication t (fieldsOf c (g .octets) .za2)) [] → Authenticates l o frame
     go c q u w h e = tied t l k o frame (g .octets) (rw q at u) (rw q at w) (rw q at h) (rw q at e)
 

@@ -2,7 +2,7 @@
 use Prim.Native.Nat.{ℕ}
 use mathlib.Core.Path.{_≡_, refl}
 use mathlib.Core.Bool.{Bool, true, false, cond}
-use mathlib.Core.List.{List}
+use mathlib.Core.List.{List, []}
 use lib.Dec.{eqb, leb}
 use lib.ListN.{length}
 use borrow.Author.Tests.{eqb-true}
@@ -13,18 +13,18 @@ use Rattle.frame.specs.Content.{fieldsOf, dataOf}
 use Rattle.receiver.specs.Receiving.{Reception, Outcome, Silent, Dropped, Complete, Step, to, onOctet, onGap, onSessionEnd}
 use Rattle.receiver.specs.Receiver.{receptionOf}
 use Rattle.receiver.proofs.Follows.{Numbered, octet-numbered, gap-numbered}
-use Rattle.wake.specs.declared.Request.{Request}
 use Rattle.tool.specs.declared.Tool.{Tool}
 use Rattle.frame.specs.Sizes.{longestFrame}
 use Rattle.tool.specs.Parts.{idle, Response, silent, refusing, over, finished}
 use Rattle.tool.specs.Soundness.{sound}
 use Rattle.tool.specs.Requests.{Asking, addressable, limitOf, lentRightly, admission, sending, admitted, afterAsking}
-use Rattle.tool.specs.Replies.{authenticating, expected}
-use Rattle.tool.specs.Events.{afterStep, heardAs, heardStep, closed, Call, Ask, Octet, Gap, SessionEnd, after, afterOctet, afterGap, afterSessionEnd}
+use Rattle.tool.specs.Replies.{authenticating}
+use Rattle.tool.specs.Events.{afterStep, heardAs, heardStep, Call, Ask, Octet, Gap, SessionEnd, after, afterOctet, afterGap, afterSessionEnd}
 use Rattle.tool.specs.Leaving.{KeepsAll, ReceiverOnly, Over, effectOf, unmade}
+use Rattle.tool.specs.Reasons.{From, Echo, Verdict, read, transferred, programmed, forged, altered, echoed, denied, unprogrammed, untransferred, unread, misread, unexpected, Reason, unasked, elsewhere, answered, Hears, unheard, partly, badly, whole}
 use Rattle.tool.proofs.Admission.{Lent, lent, Admits, admits}
 use Rattle.tool.proofs.Effects.{bad-frame-effect}
-use Rattle.tool.proofs.Endings.{Runs, Echo, Ends, quiet, well, ill, echoed, frame-ends}
+use Rattle.tool.proofs.Endings.{frame-reason}
 
 -- an octet, a gap or a session end
 abbrev pub isEvent : Call → Bool
@@ -59,7 +59,7 @@ pub data Course (t : Tool) (x : Call) (r : Response) : Type 0 where
   drops : isEvent x ≡ true → (n : ℕ) → effectOf n ≡ ReceiverOnly → r ≡ refusing (moved x t) n → Course t x r
   ends : isEvent x ≡ true → idle (t .phase) ≡ false → (d : List ℕ) → r ≡ finished d (moved x t) → Course t x r
   fails : isEvent x ≡ true → idle (t .phase) ≡ false → (n : ℕ) → effectOf n ≡ Over → r ≡ over (moved x t) n → Course t x r
-  echoes : isEvent x ≡ true → (c : Command) (s : List ℕ) → rule x (receptionOf (t .receiver)) .outcome ≡ Complete c s → Runs t (fieldsOf c s)
+  echoes : isEvent x ≡ true → (c : Command) (s : List ℕ) → rule x (receptionOf (t .receiver)) .outcome ≡ Complete c s → From t (fieldsOf c s)
       → Echo t c (fieldsOf c s) (dataOf c s) → r ≡ authenticating (fieldsOf c s .za2) (moved x t) → Course t x r
 
 module _ (t : Tool) where
@@ -98,22 +98,34 @@ module _ (t : Tool) where
         tested false p = stays wrongLength (lent-stays (Ask q l)) refl
 
   -- what a good frame does, by the tool before the receiver's step
-  ends-course : (x : Call) → isEvent x ≡ true → (c : Command) (s : List ℕ) → rule x (receptionOf (t .receiver)) .outcome ≡ Complete c s
-      → (r : Response) → Ends (moved x t) c (fieldsOf c s) (dataOf c s) r → Course t x r
-  unfolding expected
-  ends-course x v c s u r (quiet e) = passes v e
-  ends-course x v c s u r (well w d e) = ends v (w .running) d e
-  ends-course x v c s u r (ill w n p e) = fails v (w .running) n p e
-  ends-course x v c s u r (echoed w h e) =
-      echoes v c s u (record { running = w .running; answered = w .answered })
-      (record { command = h .command; tab = h .tab; count = h .count; phase = h .phase; cipher = h .cipher; same-tab = h .same-tab; same-data = h .same-data })
-      e
+  module _ (x : Call) (v : isEvent x ≡ true) (c : Command) (s : List ℕ) (u : rule x (receptionOf (t .receiver)) .outcome ≡ Complete c s) (r : Response) where
+    verdict-course : From (moved x t) (fieldsOf c s) → Verdict (moved x t) c (fieldsOf c s) (dataOf c s) r → Course t x r
+    verdict-course w (read tab p k q e) = ends v (rw p) (dataOf c s) e
+    verdict-course w (transferred p k e) = ends v (rw p) [] e
+    verdict-course w (programmed p k e) = ends v (rw p) [] e
+    verdict-course w (forged tab n p k q e) = fails v (rw p) 13 refl e
+    verdict-course w (altered tab n p k q z e) = fails v (rw p) 14 refl e
+    verdict-course w (echoed h e) =
+        echoes v c s u (record { station = w .station; primary = w .primary })
+        (record { command = h .command; tab = h .tab; count = h .count; phase = h .phase; cipher = h .cipher; same-tab = h .same-tab; same-data = h .same-data })
+        e
+    verdict-course w (denied p k e) = fails v (rw p) 13 refl e
+    verdict-course w (unprogrammed p k e) = fails v (rw p) 20 refl e
+    verdict-course w (untransferred p k e) = fails v (rw p) 20 refl e
+    verdict-course w (unread tab p k e) = fails v (rw p) 20 refl e
+    verdict-course w (misread tab p k q e) = fails v (rw p) 14 refl e
+    verdict-course w (unexpected i k e) = fails v i 19 refl e
+
+    reason-course : Reason (moved x t) c (fieldsOf c s) (dataOf c s) r → Course t x r
+    reason-course (unasked i e) = passes v e
+    reason-course (elsewhere w e) = passes v e
+    reason-course (answered w k) = verdict-course w k
 
   heard-course : (x : Call) → isEvent x ≡ true → (u : Outcome) → Numbered u → rule x (receptionOf (t .receiver)) .outcome ≡ u → Course t x (heardAs u (moved x t))
   unfolding heardAs
   heard-course x v Silent n u = passes v refl
   heard-course x v (Dropped m) n u = drops v m (bad-frame-effect m n) refl
-  heard-course x v (Complete c s) n u = ends-course x v c s u _ (frame-ends (moved x t) c (fieldsOf c s) (dataOf c s))
+  heard-course x v (Complete c s) n u = reason-course x v c s u _ (frame-reason (moved x t) c (fieldsOf c s) (dataOf c s))
 
   octet-course : (o l : ℕ) → Course t (Octet o l) (afterOctet t o l)
   unfolding afterOctet
@@ -123,6 +135,21 @@ module _ (t : Tool) where
       go true true e = heard-course (Octet o l) refl _ (octet-numbered o (receptionOf (t .receiver))) refl
       go true false e = stays brokenRule (broken-stays (Octet o l) e) refl
       go false s e = stays wrongLength (lent-stays (Octet o l)) refl
+
+  -- every octet is answered for one of 01's reasons
+  pub octet-hears : (o l : ℕ) → Hears t o (after t (Octet o l))
+  unfolding after afterOctet heardAs
+  octet-hears o l = go (leb longestFrame l) (sound t)
+    where
+      heard : (u : Outcome) → onOctet o (receptionOf (t .receiver)) .outcome ≡ u → Hears t o (heardAs u (moved (Octet o l) t))
+      heard Silent e = partly e refl
+      heard (Dropped n) e = badly n e refl
+      heard (Complete c s) e = whole c s e (frame-reason (moved (Octet o l) t) c (fieldsOf c s) (dataOf c s))
+
+      go : (a s : Bool) → Hears t o (cond a (cond s (heardStep (onOctet o (receptionOf (t .receiver))) t) (refusing t brokenRule)) (refusing t wrongLength))
+      go true true = heard _ refl
+      go true false = unheard brokenRule refl refl
+      go false s = unheard wrongLength refl refl
 
   gap-course : Course t Gap (afterGap t)
   unfolding afterGap

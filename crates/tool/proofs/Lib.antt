@@ -4,9 +4,11 @@ mod Answers
 mod Gives
 pub mod Admission
 mod Receiving
+mod Exchanges
 pub mod Turning
 pub mod Effects
 pub mod Endings
+pub mod Exactly
 pub mod Courses
 pub mod Refusals
 pub mod StaysSound

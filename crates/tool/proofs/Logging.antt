@@ -1,14 +1,11 @@
 -- The tool after calls is as the host's log says: which wake-ups came, whether a request runs and with which arguments, and what has come of the present frame.
 use Prim.Native.Nat.{ℕ}
-use mathlib.Core.Path.{_≡_, refl, sym, ap, _∙_}
-use mathlib.Core.Bool.{Bool, true, false, cond}
+use mathlib.Core.Path.{_≡_, refl, ap, _∙_}
+use mathlib.Core.Bool.{true, false, cond}
 use mathlib.Core.List.{List, [], _∷_}
-use mathlib.Core.Option.{Option, none, some}
-use lib.Dec.{eqb}
-use lib.ListN.{length, take}
+use mathlib.Core.Option.{Option, some}
 use Rattle.octets.proofs.Impossible.{impossible}
 use Rattle.octets.proofs.Splice.{take-fronted}
-use Rattle.numbers.specs.Table as table
 use Rattle.numbers.specs.declared.Octets.{Octets}
 use Rattle.numbers.specs.Answer.{given}
 use Rattle.frame.specs.Content.{fieldsOf}
@@ -16,7 +13,6 @@ use Rattle.receiver.specs.Receiving.{Reception}
 use Rattle.receiver.specs.Receiver.{receptionOf}
 use Rattle.receiver.proofs.Soundness.{fresh-awaiting}
 use Rattle.wake.specs.declared.Last.the-variants.{Other}
-use Rattle.wake.specs.declared.Wake.the-variants.{None}
 use Rattle.wake.specs.declared.WakeUps.{WakeUps}
 use Rattle.wake.specs.declared.Request.{Request}
 use Rattle.wake.specs.declared.Request.the-variants.{Enq, Trf, Rec, Trb, Ib}
@@ -27,17 +23,17 @@ use Rattle.wake.specs.Lists as entry
 use Rattle.wake.specs.Lists.{latestEnded}
 use Rattle.wake.proofs.Memory.{Follows, fresh-follows, wakes-when-due, asked-follows, succeeded-follows, failed-follows}
 use Rattle.tool.specs.declared.Phase.{Phase}
-use Rattle.tool.specs.declared.Phase.the-variants.{Programming, Authenticating}
+use Rattle.tool.specs.declared.Phase.the-variants.{Idle, Reading, Transferring, Programming, Authenticating}
 use Rattle.tool.specs.declared.Tool.{Tool}
 use Rattle.tool.specs.Answers.{isDone}
 use Rattle.tool.specs.Parts.{idle, lastOf, fresh, inPhase, withWaking, ended, Response, silent, refusing, over, finished}
 use Rattle.tool.specs.Requests.{Asking, running, progressOf}
 use Rattle.tool.specs.Replies.{authenticating}
 use Rattle.tool.specs.Events.{Call, Ask, Octet, Gap, SessionEnd, after}
-use Rattle.tool.specs.Leaving.{endings, oneOf, unmade}
+use Rattle.tool.specs.Leaving.{endings, unmade}
 use Rattle.tool.specs.Log.{Report, reportOf, Log, freshLog, askingLogged, endingNoted, eventLogged, logged, leftAfter, logAfter}
+use Rattle.tool.specs.Claims.{Latest, Marked}
 use Rattle.tool.proofs.Effects.{in-endings, receiver-only, over-made}
-use Rattle.tool.proofs.Admission.{Admits}
 use Rattle.tool.proofs.Courses.{isEvent, rule, moved, Stays, Course, stays, asks, passes, drops, ends, fails, echoes, course}
 use Rattle.tool.proofs.StaysSound.{Whole, fresh-whole, moved-whole, moved-reception, after-whole}
 
@@ -46,17 +42,9 @@ abbrev Open : List Entry → Type 0
 Open [] = ⊥
 Open (e ∷ past) = e .ending ≡ ending.running
 
--- the arguments of a programming request that runs are the latest request's
-pub record Programs (t : Tool) (tab : ℕ) (n : Octets) (latest : Option Asking) : Type 0 where
-  pub asking : Asking
-  pub last : latest ≡ some asking
-  pub request : asking .request ≡ Rec
-  pub ads : t .ads ≡ asking .ads
-  pub adp : t .adp ≡ asking .adp
-  pub key : t .key ≡ asking .key
-  pub na1 : t .na1 ≡ asking .na1
-  pub same-tab : tab ≡ asking .tab
-  pub sent : take (n .0) (t .sent) ≡ asking .content
+-- the request that a tool is marked with while it waits for ECH
+pub programs : (t : Tool) (latest : Option Asking) (p : Phase) (tab : ℕ) (n : Octets) → p ≡ Programming tab n → Marked t latest p → Marked t latest (Programming tab n)
+programs t latest p tab n e m = rw e at m
 
 -- The log l, with its wake-ups as 01 says, and the tool t after the same calls.
 pub record Agrees (t : Tool) (l : Log) : Type 0 where
@@ -65,7 +53,7 @@ pub record Agrees (t : Tool) (l : Log) : Type 0 where
   pub running : idle (t .phase) ≡ false → Open (l .entries)
   pub rightly : Rightly (l .entries)
   pub reception : receptionOf (t .receiver) ≡ l .reception
-  pub programming : (tab : ℕ) (n : Octets) → t .phase ≡ Programming tab n → Programs t tab n (l .latest)
+  pub marked : Marked t (l .latest) (t .phase)
 
 pub fresh-agrees : Agrees fresh freshLog
 unfolding Rightly
@@ -76,7 +64,7 @@ fresh-agrees =
       running = λ e. impossible (cc);
       rightly = tt;
       reception = fresh-awaiting;
-      programming = λ tab n e. impossible (cc);
+      marked = tt;
     }
 
 given-back : (x : Call) (l : Log) {r s : Response} → r ≡ s → Agrees (s .tool) (logged x (reportOf s) l) → Agrees (r .tool) (logged x (reportOf r) l)
@@ -122,11 +110,14 @@ module _ (t : Tool) (l : Log) (k : Agrees t l) (q : Asking) where
   unfolding wake.succeeded
   done-follows r e = rw e (succeeded-follows Other (next r) (entered r) (l .entries) refl (rw e at (follows r)))
 
+  abbrev latest : (r : Request) → q .request ≡ r → Latest r (q .ads) (q .adp) (some q)
+  latest r e = record { asking = q; last = refl; request = e; station = refl; primary = refl }
+
   sent-agrees : (r : Request) → q .request ≡ r → Whole (withWaking (next r) (running r q t)) → Agrees (withWaking (next r) (running r q t)) (asked-log r)
   sent-agrees Enq e w =
-      record { whole = w; memory = follows Enq; running = λ i. refl; rightly = entered-rightly Enq; reception = k .reception; programming = λ tab n z. impossible (cc) }
+      record { whole = w; memory = follows Enq; running = λ i. refl; rightly = entered-rightly Enq; reception = k .reception; marked = (latest Enq e, refl) }
   sent-agrees Trf e w =
-      record { whole = w; memory = follows Trf; running = λ i. refl; rightly = entered-rightly Trf; reception = k .reception; programming = λ tab n z. impossible (cc) }
+      record { whole = w; memory = follows Trf; running = λ i. refl; rightly = entered-rightly Trf; reception = k .reception; marked = latest Trf e }
   sent-agrees Rec e w =
       record {
         whole = w;
@@ -134,26 +125,12 @@ module _ (t : Tool) (l : Log) (k : Agrees t l) (q : Asking) where
         running = λ i. refl;
         rightly = entered-rightly Rec;
         reception = k .reception;
-        programming = λ tab n z.
-            record {
-              asking = q;
-              last = refl;
-              request = e;
-              ads = refl;
-              adp = refl;
-              key = refl;
-              na1 = refl;
-              same-tab = cc;
-              sent = kept n (cc);
-            };
+        marked = (latest Rec e, record { same-tab = refl; same-key = refl; same-na1 = refl; same-content = take-fronted (q .content) (t .sent) });
       }
-    where
-      kept : (n : Octets) → n ≡ record { 0 = length (q .content) } → take (n .0) (running Rec q t .sent) ≡ q .content
-      kept n z = rw z (take-fronted (q .content) (t .sent))
   sent-agrees Trb e w =
-      record { whole = w; memory = done-follows Trb refl; running = λ i. impossible (cc); rightly = entered-rightly Trb; reception = k .reception; programming = λ tab n z. impossible (cc) }
+      record { whole = w; memory = done-follows Trb refl; running = λ i. impossible (cc); rightly = entered-rightly Trb; reception = k .reception; marked = tt }
   sent-agrees Ib e w =
-      record { whole = w; memory = done-follows Ib refl; running = λ i. impossible (cc); rightly = entered-rightly Ib; reception = k .reception; programming = λ tab n z. impossible (cc) }
+      record { whole = w; memory = done-follows Ib refl; running = λ i. impossible (cc); rightly = entered-rightly Ib; reception = k .reception; marked = tt }
 
 -- an event
 module _ (t : Tool) (l : Log) (k : Agrees t l) (x : Call) (v : isEvent x ≡ true) where
@@ -167,6 +144,13 @@ module _ (t : Tool) (l : Log) (k : Agrees t l) (x : Call) (v : isEvent x ≡ tru
   heard-reception : receptionOf (moved x t .receiver) ≡ rule x (l .reception) .next
   heard-reception = moved-reception x t (k .whole) ∙ ap (λ (h : Reception). rule x h .next) (k .reception)
 
+  marked-on : (p : Phase) → Marked t (l .latest) p → Marked (moved x t) (l .latest) p
+  marked-on (Idle last) m = m
+  marked-on (Reading tab) m = m
+  marked-on Transferring m = m
+  marked-on (Programming tab n) m = m
+  marked-on Authenticating m = m
+
   -- nothing but the receiver has changed
   moved-agrees : Agrees (moved x t) (heard-log (l .entries))
   moved-agrees =
@@ -176,9 +160,7 @@ module _ (t : Tool) (l : Log) (k : Agrees t l) (x : Call) (v : isEvent x ≡ tru
         running = k .running;
         rightly = k .rightly;
         reception = heard-reception;
-        programming = λ tab n e.
-            let p = k .programming tab n e in
-            record { asking = p .asking; last = p .last; request = p .request; ads = p .ads; adp = p .adp; key = p .key; na1 = p .na1; same-tab = p .same-tab; sent = p .sent };
+        marked = marked-on (t .phase) (k .marked);
       }
 
   -- the running request ends so, and the wake-up memory is w
@@ -194,19 +176,20 @@ module _ (t : Tool) (l : Log) (k : Agrees t l) (x : Call) (v : isEvent x ≡ tru
         running = λ i. impossible (cc);
         rightly = rw (← z) at (k .rightly);
         reception = heard-reception;
-        programming = λ tab m q. impossible (cc);
+        marked = tt;
       }
 
   -- AUT is sent
-  echoed-agrees : Whole (inPhase Authenticating (moved x t)) → idle (t .phase) ≡ false → lastOf (t .phase) ≡ Other → Agrees (inPhase Authenticating (moved x t)) (heard-log (l .entries))
-  echoed-agrees w i o =
+  echoed-agrees : Whole (inPhase Authenticating (moved x t)) → idle (t .phase) ≡ false → lastOf (t .phase) ≡ Other → Latest Rec (t .ads) (t .adp) (l .latest)
+      → Agrees (inPhase Authenticating (moved x t)) (heard-log (l .entries))
+  echoed-agrees w i o g =
       record {
         whole = w;
         memory = rw o at (k .memory);
         running = λ z. k .running i;
         rightly = k .rightly;
         reception = heard-reception;
-        programming = λ tab n z. impossible (cc);
+        marked = g;
       }
 
 -- the receiver and the tool's step leave a whole tool
@@ -230,7 +213,7 @@ course-agrees t l x r k w (fails v i n f e) =
     (rw (heard-as t l k x v (reportOf (over (moved x t) n)) (latestEnded (ending.withNumber n) (l .entries)) (over-made n f) (rw (in-endings n f)))
     (ended-agrees t l k x v (ending.withNumber n) (t .waking) (l .entries) refl (still-whole e w) (k .running i) (λ y rest o m. failed-follows (lastOf (t .phase)) (t .waking) y rest o m n)))
 course-agrees t l x r k w (echoes v c s u m h e) =
-    given-back x l e (rw (heard-as t l k x v (reportOf (authenticating (fieldsOf c s .za2) (moved x t))) (l .entries) refl refl) (echoed-agrees t l k x v (still-whole e w) (m .running) (rw (h .phase))))
+    given-back x l e (rw (heard-as t l k x v (reportOf (authenticating (fieldsOf c s .za2) (moved x t))) (l .entries) refl refl) (echoed-agrees t l k x v (still-whole e w) (rw (h .phase)) (rw (h .phase)) (programs t (l .latest) (t .phase) (h .tab) (h .count) (h .phase) (k .marked) .0)))
 
 pub call-agrees : (t : Tool) (l : Log) (x : Call) → Agrees t l → Agrees (after t x .tool) (logged x (reportOf (after t x)) l)
 call-agrees t l x k = course-agrees t l x (after t x) k (after-whole t x (k .whole)) (course t x)
@@ -244,3 +227,7 @@ calls-agree (x ∷ h) t l k = calls-agree h (after t x .tool) (logged x (reportO
 -- requests, wake-ups and endings that the calls tell of.
 pub wake-ups-rightly : (h : List Call) → Rightly (logAfter fresh h freshLog .entries)
 wake-ups-rightly h = calls-agree h fresh freshLog fresh-agrees .rightly
+
+-- For every list of calls on a fresh tool, refused ones included, the request that runs is the latest that was accepted, with its arguments.
+pub marked-latest : (h : List Call) → Marked (leftAfter fresh h) (logAfter fresh h freshLog .latest) (leftAfter fresh h .phase)
+marked-latest h = calls-agree h fresh freshLog fresh-agrees .marked

@@ -66,7 +66,7 @@ course-drops t o l r i (passes v e) = dropped _ (given nothing) (λ q. impossibl
 course-drops t o l r i (drops v n f e) = dropped _ (refused n) (λ q. impossible (cc)) e
 course-drops t o l r i (ends v w d e) = let z : false ≡ true = sym w ∙ i in impossible (cc)
 course-drops t o l r i (fails v w n f e) = let z : false ≡ true = sym w ∙ i in impossible (cc)
-course-drops t o l r i (echoes v c s u w h e) = let z : false ≡ true = sym (w .running) ∙ i in impossible (cc)
+course-drops t o l r i (echoes v c s u w h e) = let z : false ≡ true = sym (ap idle (h .phase)) ∙ i in impossible (cc)
 
 -- "with no request running, frames are dropped"
 pub idle-drops : (t : Tool) (o l : ℕ) → idle (t .phase) ≡ true → Dropped t (after t (Octet o l))

@@ -1,6 +1,6 @@
 -- The turn on ECH, and that AUT is sent after the right one.
 use Prim.Native.Nat.{ℕ}
-use mathlib.Core.Path.{_≡_, refl}
+use mathlib.Core.Path.{_≡_}
 use mathlib.Core.Bool.{true, cond}
 use mathlib.Core.List.{List}
 use lib.ListN.{take}
@@ -24,7 +24,7 @@ module _ (p : Phase) (t : Tool) (y : Reply) (f : Fields) (d : List ℕ) (tab : �
   echo-turn h = rw (e, h)
 
 -- an ECH with the cipher of NA1, the TAB and the DATA sent
-right-echo : (t : Tool) (f : Fields) (d : List ℕ) (tab : ℕ) (n : Octets) → f .za1 ≡ encipher (t .key) (t .na1) → f .tab ≡ tab → d ≡ take (n .0) (t .sent) → onEcho t tab (n .0) f d ≡ Authenticate
+pub right-echo : (t : Tool) (f : Fields) (d : List ℕ) (tab : ℕ) (n : Octets) → f .za1 ≡ encipher (t .key) (t .na1) → f .tab ≡ tab → d ≡ take (n .0) (t .sent) → onEcho t tab (n .0) f d ≡ Authenticate
 unfolding onEcho enciphers echoes
 right-echo t f d tab n c q s =
     rw (c, same-self (encipher (t .key) (t .na1)), eq-eqb (f .tab) tab q, s, same-self (take (n .0) (t .sent)))

@@ -5,6 +5,7 @@ pub mod Requests
 pub mod Replies
 pub mod Events
 pub mod Leaving
+pub mod Reasons
 pub mod Feeding
 pub mod Log
 pub mod Claims
