@@ -18,7 +18,7 @@ use Rattle.frame.proofs.RoundTrip.{built-beyond, built-reads-back}
 use Rattle.label.specs.Utf8.{table, begins, rowAt, sequenceLength, sequencesFrom, sequences, wellFormedOctets, wellFormed}
 use Rattle.label.specs.Character.{grouped, characters}
 use Rattle.label.specs.Fitting.{judged, keep, keptCharacters, fitOf}
-use Rattle.number.specs.Groups.{encoded, groups, decoded, joined, bounded, none as noNumber, frontOf}
+use Rattle.number.specs.Groups.{encoded, groups, decoded, joined, bounded, none as noNumber, frontNumber}
 use Rattle.number.proofs.Forms.{front-form}
 use Rattle.swap.proofs.Verdicts.{verdict-none}
 use Rattle.bench.specs.Rows.{exactly, any, builds, fits, encodes, judges, Holds, Each, none, next, whole, kept, illFormedAt, twoLetters, rows}
@@ -55,11 +55,11 @@ encodes-own : (n : ℕ) (octets : List ℕ) → n < 2 ^ 32 → encoded n ≡ oct
 encodes-own n octets h e = (e, λ rest. rw (← e) (front-form n rest h))
 
 -- files: no count stands at the front
-uncounted : (front : List ℕ) → ((rest : List ℕ) → frontOf (front ++ rest) ≡ noNumber) → Holds (judges front (refusedAt faultyFile (inOctets 0)))
+uncounted : (front : List ℕ) → ((rest : List ℕ) → frontNumber (front ++ rest) ≡ noNumber) → Holds (judges front (refusedAt faultyFile (inOctets 0)))
 uncounted front e rest h = sym (verdict-none (front ++ rest) h (e rest))
 
 pub bench : Each rows
-unfolding encoded groups decoded joined bounded frontOf layoutOf within between fitOf judged keptCharacters keep characters grouped wellFormed wellFormedOctets sequences sequencesFrom sequenceLength rowAt begins table flatten
+unfolding encoded groups decoded joined bounded frontNumber layoutOf within between fitOf judged keptCharacters keep characters grouped wellFormed wellFormedOctets sequences sequencesFrom sequenceLength rowAt begins table flatten
 bench =
     next (within-builds Trf 116 refl)
     (next (beyond-refused Trf 117 refl)

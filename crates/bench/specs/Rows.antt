@@ -15,8 +15,8 @@ use Rattle.frame.specs.declared.content.Fields.{Fields}
 use Rattle.frame.specs.Sizes.{longestFrame}
 use Rattle.frame.specs.Content.{Shaped}
 use Rattle.frame.specs.Building.{built}
-use Rattle.number.specs.Groups.{encoded, found, frontOf}
-use Rattle.swap.specs.declared.file.Records.{Records}
+use Rattle.number.specs.Groups.{encoded, found, frontNumber}
+use Rattle.swap.specs.declared.file.RecordCount.{RecordCount}
 use Rattle.swap.specs.Record.{fileLimit}
 use Rattle.swap.specs.Reading.{verdictOf}
 
@@ -37,7 +37,7 @@ pub data Row : Type 0 where
   -- a number, and its octets in the swap file: it is written so, and read so whatever follows
   encodes : ℕ → List ℕ → Row
   -- how a swap file begins, and what reading it answers, whatever follows within the file's limit
-  judges : List ℕ → Answer Records → Row
+  judges : List ℕ → Answer RecordCount → Row
 
 -- what a row says
 abbrev pub Holds : Row → Type 0
@@ -45,7 +45,7 @@ Holds (builds command count answer) =
     (buffer : List ℕ) (fields : Fields) (content : List ℕ) → longestFrame ≤ length buffer → Shaped fields → length content ≡ count → built buffer command fields content .answer ≡ answer
 Holds (fits label octetLimit characterLimit answer) =
     (octets characters : ℕ) → Allows octetLimit octets → Allows characterLimit characters → fitOf label (inOctets octets) (inCharacters characters) ≡ answer
-Holds (encodes n octets) = (encoded n ≡ octets) × ((rest : List ℕ) → frontOf (octets ++ rest) ≡ found n (length octets))
+Holds (encodes n octets) = (encoded n ≡ octets) × ((rest : List ℕ) → frontNumber (octets ++ rest) ≡ found n (length octets))
 Holds (judges front answer) = (rest : List ℕ) → length (front ++ rest) ≤ fileLimit → verdictOf (front ++ rest) ≡ answer
 
 -- each row of a list holds

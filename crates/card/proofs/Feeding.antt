@@ -29,7 +29,7 @@ use Rattle.card.proofs.Keeping.{Whole, course}
 use Rattle.card.proofs.Station.{stationOf, frame-receiver, same-station, same-number, same-reply}
 
 -- the first outcome of octets that end in one, and the others
-first-more : (u : Outcome) (x : Course) (n : ℕ) (y : Outcome) → receiving.after u x ≡ endingIn (suc n) y → (u ≡ Silent) × (x ≡ endingIn n y)
+first-more : (u : Outcome) (x : Course) (n : ℕ) (y : Outcome) → receiving.leadingWith u x ≡ endingIn (suc n) y → (u ≡ Silent) × (x ≡ endingIn n y)
 first-more u x n y e =
     let all : u ∷ x .outcomes ≡ Silent ∷ (replicate n Silent ++ (y ∷ [])) = ap (λ (z : Course). z .outcomes) e in
     let rest : x .outcomes ≡ replicate n Silent ++ (y ∷ []) = cc in

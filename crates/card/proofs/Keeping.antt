@@ -33,7 +33,7 @@ use Rattle.card.specs.declared.Card.{Card}
 use Rattle.card.specs.declared.taking.Taken.{Taken}
 use Rattle.card.specs.declared.taking.Taken.the-variants as taking
 use Rattle.card.specs.Loan.{Loan, usable}
-use Rattle.card.specs.Parts.{withRecords, idle, Response, responding, telling}
+use Rattle.card.specs.Parts.{withRecords, withoutWait, Response, responding, telling}
 use Rattle.card.specs.Soundness.{sound, Sound}
 use Rattle.card.specs.Taking.{takenFor}
 use Rattle.card.specs.Frames.{written, acknowledged, enqFor, onEnq, waitingFor, onRec, authentic, autIn, onAut, onTrf, onTrb, onIb, respond, onFrame}
@@ -101,10 +101,10 @@ cond-course c false r q h k = k
 
 -- c is the card that the call was made on, and b that card after its receiver's step
 module _ (c b : Card) (u : Unchanged c b) (h : Whole b) where
-  idle-unchanged : Unchanged c (idle b)
+  idle-unchanged : Unchanged c (withoutWait b)
   idle-unchanged = record { identity = u .identity; records = u .records; content = u .content; na2 = u .na2; phase = inr refl }
 
-  idle-whole : Whole (idle b)
+  idle-whole : Whole (withoutWait b)
   idle-whole =
       record {
         sound = record { address = h .sound .address; fits = omega arith; receiver = h .sound .receiver; records = h .sound .records };
@@ -150,21 +150,21 @@ module _ (c b : Card) (u : Unchanged c b) (h : Whole b) where
 
   enq-course : (g : Answer ℕ) → numberOf g ≤ notOpen → (f : Fields) → Course c (enqFor g b f)
   unfolding enqFor
-  enq-course (given i) p f = done-course c (idle b) _ (u .identity) idle-whole
-  enq-course (refused n) p f = refused-course c (idle b) n _ (below n p) idle-unchanged idle-whole
-  enq-course (refusedAt n offset) p f = refused-course c (idle b) n _ (below n p) idle-unchanged idle-whole
+  enq-course (given i) p f = done-course c (withoutWait b) _ (u .identity) idle-whole
+  enq-course (refused n) p f = refused-course c (withoutWait b) n _ (below n p) idle-unchanged idle-whole
+  enq-course (refusedAt n offset) p f = refused-course c (withoutWait b) n _ (below n p) idle-unchanged idle-whole
 
 -- a write over the bus comes after the wait is over
 module _ (c b : Card) (u : Unchanged c b) (h : Whole b) where
-  bus-course : (cause : Cause) (t : ℕ) (d s : List ℕ) → Course c (responding (written (idle b) cause t d .card) (written (idle b) cause t d .number) s)
-  bus-course = written-course c (idle b) (idle-unchanged c b u h) (idle-whole c b u h)
+  bus-course : (cause : Cause) (t : ℕ) (d s : List ℕ) → Course c (responding (written (withoutWait b) cause t d .card) (written (withoutWait b) cause t d .number) s)
+  bus-course = written-course c (withoutWait b) (idle-unchanged c b u h) (idle-whole c b u h)
 
   aut-course : (p : Phase) (f : Fields) → Course c (autIn p b f)
   unfolding autIn acknowledged
   aut-course Idle f = done-course c b [] (u .identity) h
   aut-course (Waiting adp tab n) f =
       cond-course c (authentic (b .identity .key) (b .exchange .na2) adp f) _ _ (bus-course (Programmed adp) tab _ _)
-      (refused-course c (idle b) wrongCipher _ (record { no12 = λ e. omega arith; no17 = λ e. omega arith }) (idle-unchanged c b u h) (idle-whole c b u h))
+      (refused-course c (withoutWait b) wrongCipher _ (record { no12 = λ e. omega arith; no17 = λ e. omega arith }) (idle-unchanged c b u h) (idle-whole c b u h))
 
   respond-course : (t : Taken) (loan : Loan) (f : Fields) (d : List ℕ) → (t ≡ taking.Rec → within (layoutOf Rec) (length d) ≡ true) → Course c (respond t b loan f d)
   unfolding respond onEnq onRec onAut onTrf onTrb onIb acknowledged written
@@ -175,7 +175,7 @@ module _ (c b : Card) (u : Unchanged c b) (h : Whole b) where
   respond-course taking.Aut loan f d w = aut-course (b .exchange .phase) f
   respond-course taking.Trf loan f d w = bus-course (Transferred (f .adp)) (f .tab) d _
   respond-course taking.Trb loan f d w = bus-course (Broadcast (f .adp)) (f .tab) d []
-  respond-course taking.Ib loan f d w = done-course c (idle b) [] (u .identity) (idle-whole c b u h)
+  respond-course taking.Ib loan f d w = done-course c (withoutWait b) [] (u .identity) (idle-whole c b u h)
   respond-course taking.None loan f d w = done-course c b [] (u .identity) h
 
   heard-course : (o : Outcome) (loan : Loan) → Numbered o → ((k : Command) (s : List ℕ) → o ≡ Complete k s → within (layoutOf k) (length (dataOf k s)) ≡ true) → Course c (heardAs o b loan)

@@ -28,7 +28,7 @@ use Rattle.card.specs.declared.Card.{Card}
 use Rattle.card.specs.declared.taking.Taken.{Taken}
 use Rattle.card.specs.declared.taking.Taken.the-variants as taking
 use Rattle.card.specs.Loan.{Loan, usable}
-use Rattle.card.specs.Parts.{withRecords, withReceiver, idle, Response}
+use Rattle.card.specs.Parts.{withRecords, withReceiver, withoutWait, Response}
 use Rattle.card.specs.Taking.{takenFor}
 use Rattle.card.specs.Frames.{written, acknowledged, enqFor, onEnq, waitingFor, onRec, authentic, autIn, onAut, onTrf, onTrb, onIb, respond, onFrame}
 use Rattle.card.specs.Events.{Call, Octet, Gap, SessionEnd, MeterWrite, afterStep, heardAs, heard, afterOctet, afterGap, afterSessionEnd, afterMeterWrite, after}
@@ -40,7 +40,7 @@ use Rattle.card.proofs.Keeping.{Whole}
 pub data Reached (c : Card) : Card → Type 0 where
   same : Reached c c
   receives : {d : Card} (r : Reception) → SoundReception r → Reached c d → Reached c (withReceiver (holding r (d .receiver)) d)
-  ends : {d : Card} → Reached c d → Reached c (idle d)
+  ends : {d : Card} → Reached c d → Reached c (withoutWait d)
   waits : {d : Card} (loan : Loan) (f : Fields) (s : List ℕ) → length (loan .na2) ≡ numberWidth → length s ≤ mostProgrammed → Reached c d → Reached c (waitingFor d loan f s)
   writes : {d : Card} (cause : Cause) (t : ℕ) (s : List ℕ) → Reached c d → Reached c (withRecords (write (d .records) cause t s .records) d)
 
@@ -50,7 +50,7 @@ module _ (c : Card) where
   cond-reached false r q h k = k
 
   module _ (d : Card) (h : Reached c d) where
-    bus-reached : (cause : Cause) (t : ℕ) (s : List ℕ) → Reached c (written (idle d) cause t s .card)
+    bus-reached : (cause : Cause) (t : ℕ) (s : List ℕ) → Reached c (written (withoutWait d) cause t s .card)
     unfolding written
     bus-reached cause t s = writes cause t s (ends h)
 

@@ -10,14 +10,14 @@ use Rattle.receiver.specs.Receiver as receiver
 use Rattle.receiver.proofs.Soundness as receiver-laws
 use Rattle.card.specs.declared.Card.{Card}
 use Rattle.frame.specs.Addresses.{broadcast}
-use Rattle.card.specs.Soundness.{waitingLength, fitting, sound, Sound}
+use Rattle.card.specs.Soundness.{waitingLength, withinRec, sound, Sound}
 
 module _ (c : Card) where
   sound-of : sound c ≡ true → Sound c
   unfolding sound
   sound-of h =
-      let first = and-eq-true-iff (not (broadcast (c .identity .address))) (fitting (c .exchange .phase) && (receiver.sound (c .receiver) && records.sound (c .records))) .0 h in
-      let second = and-eq-true-iff (fitting (c .exchange .phase)) (receiver.sound (c .receiver) && records.sound (c .records)) .0 (first .1) in
+      let first = and-eq-true-iff (not (broadcast (c .identity .address))) (withinRec (c .exchange .phase) && (receiver.sound (c .receiver) && records.sound (c .records))) .0 h in
+      let second = and-eq-true-iff (withinRec (c .exchange .phase)) (receiver.sound (c .receiver) && records.sound (c .records)) .0 (first .1) in
       let third = and-eq-true-iff (receiver.sound (c .receiver)) (records.sound (c .records)) .0 (second .1) in
       record {
         address = not-true (broadcast (c .identity .address)) (first .0);

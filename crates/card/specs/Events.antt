@@ -9,7 +9,7 @@ use Rattle.receiver.specs.Receiver.{receptionOf, holding}
 use Rattle.records.specs.declared.Cause.the-variants.{Meter}
 use Rattle.card.specs.declared.Card.{Card}
 use Rattle.card.specs.Loan.{Loan, usable}
-use Rattle.card.specs.Parts.{withReceiver, idle, Response, telling, silent}
+use Rattle.card.specs.Parts.{withReceiver, withoutWait, Response, telling, silent}
 use Rattle.card.specs.Soundness.{sound}
 use Rattle.card.specs.Frames.{written, onFrame}
 
@@ -47,7 +47,7 @@ afterGap c = cond (sound c) (gapStep (onGap (receptionOf (c .receiver))) c) (tel
 
 -- "A session end ends it too and empties the receiver, which then awaits an N."
 unfoldable pub afterSessionEnd : Card → Response
-afterSessionEnd c = cond (sound c) (silent (idle (withReceiver (holding Awaiting (c .receiver)) c))) (telling c brokenRule)
+afterSessionEnd c = cond (sound c) (silent (withoutWait (withReceiver (holding Awaiting (c .receiver)) c))) (telling c brokenRule)
 
 -- "A meter write tests 10 and then the data." "A meter write doesn't" end the wait.
 unfoldable pub afterMeterWrite : Card → ℕ → List ℕ → Response

@@ -25,7 +25,7 @@ use Rattle.card.specs.declared.Card.{Card}
 use Rattle.card.specs.declared.taking.Taken.{Taken}
 use Rattle.card.specs.declared.taking.Taken.the-variants as taking
 use Rattle.card.specs.Loan.{Loan}
-use Rattle.card.specs.Parts.{withExchange, withRecords, idle, Response, responding, telling, silent}
+use Rattle.card.specs.Parts.{withExchange, withRecords, withoutWait, Response, responding, telling, silent}
 use Rattle.card.specs.Taking.{takenFor}
 
 -- the card after a write, granted or refused
@@ -44,9 +44,9 @@ acknowledged c cause t d granted f =
 
 -- "ENQ: the reply is DAT with the record, or the negative answer of 4.4.2 if it is missing (10) or not readable (11)."
 unfoldable pub enqFor : Answer ℕ → Card → Fields → Response
-enqFor (given i) c f = responding (idle c) none (frameOctets Dat f (contents (recordAt (c .records) i)))
-enqFor (refused n) c f = responding (idle c) n (frameOctets Drj f [])
-enqFor (refusedAt n offset) c f = responding (idle c) n (frameOctets Drj f [])
+enqFor (given i) c f = responding (withoutWait c) none (frameOctets Dat f (contents (recordAt (c .records) i)))
+enqFor (refused n) c f = responding (withoutWait c) n (frameOctets Drj f [])
+enqFor (refusedAt n offset) c f = responding (withoutWait c) n (frameOctets Drj f [])
 
 unfoldable pub onEnq : Card → Fields → Response
 onEnq c f = enqFor (findReadable (attributesOf (c .records)) (f .tab)) c f
@@ -75,23 +75,23 @@ authentic key na2 adp f = eqb adp (f .adp) && same (f .za2) (encipher key na2)
 unfoldable pub autIn : Phase → Card → Fields → Response
 autIn Idle c f = silent c
 autIn (Waiting adp tab n) c f =
-    cond (authentic (c .identity .key) (c .exchange .na2) adp f) (acknowledged (idle c) (Programmed adp) tab (take (n .0) (c .exchange .content)) Eos f)
-    (responding (idle c) wrongCipher (frameOctets Arj f []))
+    cond (authentic (c .identity .key) (c .exchange .na2) adp f) (acknowledged (withoutWait c) (Programmed adp) tab (take (n .0) (c .exchange .content)) Eos f)
+    (responding (withoutWait c) wrongCipher (frameOctets Arj f []))
 
 unfoldable pub onAut : Card → Fields → Response
 onAut c f = autIn (c .exchange .phase) c f
 
 -- "TRF: written and TRA, or DRJ."
 unfoldable pub onTrf : Card → Fields → List ℕ → Response
-onTrf c f d = acknowledged (idle c) (Transferred (f .adp)) (f .tab) d Tra f
+onTrf c f d = acknowledged (withoutWait c) (Transferred (f .adp)) (f .tab) d Tra f
 
 -- "TRB: written or dropped (10, 11, 7, 8, 9); no reply, but the number goes to the host."
 unfoldable pub onTrb : Card → Fields → List ℕ → Response
-onTrb c f d = written (idle c) (Broadcast (f .adp)) (f .tab) d
+onTrb c f d = written (withoutWait c) (Broadcast (f .adp)) (f .tab) d
 
 -- "IB: no reply, records unchanged." "ENQ, REC, TRF, TRB and IB end a waiting exchange."
 unfoldable pub onIb : Card → Response
-onIb c = silent (idle c)
+onIb c = silent (withoutWait c)
 
 -- "Other good frames get no reply and change nothing, the waiting exchange included."
 unfoldable pub respond : Taken → Card → Loan → Fields → List ℕ → Response

@@ -25,8 +25,8 @@ abbrev pub withReceiver : Receiver → Card → Card
 withReceiver r c = record { identity = c .identity; records = c .records; exchange = c .exchange; receiver = r }
 
 -- the card with no exchange waiting
-abbrev pub idle : Card → Card
-idle c = withExchange (record { phase = Idle; content = c .exchange .content; na2 = c .exchange .na2 }) c
+abbrev pub withoutWait : Card → Card
+withoutWait c = withExchange (record { phase = Idle; content = c .exchange .content; na2 = c .exchange .na2 }) c
 
 -- The next card, the number for the host, and the octets of the reply frame: none where there is no reply.
 pub record Response : Type 0 where

@@ -17,14 +17,14 @@ waitingLength Idle = 0
 waitingLength (Waiting adp tab n) = n .0
 
 -- no more DATA waits than a REC can have
-abbrev pub fitting : Phase → Bool
-fitting p = leb (waitingLength p) mostProgrammed
+abbrev pub withinRec : Phase → Bool
+withinRec p = leb (waitingLength p) mostProgrammed
 
 -- "a card .. that breaks a setup rule, holds a length over its limit or a state mark not in use is refused with 12 ..; so is a partly received
 -- frame whose N answer 1 would refuse, or with as many octets as its N states or more." Every state mark of a card by value is in use by its type.
 unfoldable pub sound : Card → Bool
 sound c =
-    not (broadcast (c .identity .address)) && (fitting (c .exchange .phase) && (receiver.sound (c .receiver) && records.sound (c .records)))
+    not (broadcast (c .identity .address)) && (withinRec (c .exchange .phase) && (receiver.sound (c .receiver) && records.sound (c .records)))
 
 -- the same rules one by one
 pub record Sound (c : Card) : Type 0 where

@@ -1,6 +1,6 @@
 // A card with one of its parts another, and a card beside what the host is told.
 ghost use mathlib.Core.Path.{_≡_};
-ghost use Rattle.card.specs.Parts.{idle, withExchange, withRecords, withReceiver, answered, unreplied};
+ghost use Rattle.card.specs.Parts.{withoutWait, withExchange, withRecords, withReceiver, answered, unreplied};
 use crate::Answer;
 use crate::Answered;
 use crate::Card;
@@ -22,7 +22,7 @@ impl Card {
 
     // No exchange waits. The octets beside the phase stay, and are free.
     pub(crate) fn idle(self) -> Card
-        ensures { λ r. ⌜ r ≡ idle self ⌝ }
+        ensures { λ r. ⌜ r ≡ withoutWait self ⌝ }
     {
         let exchange = self.exchange;
         let content = exchange.content;

@@ -1,7 +1,7 @@
 // The cards that no call refuses with 12.
 ghost use mathlib.Core.Path.{_≡_};
 ghost use Rattle.frame.specs.Addresses.{broadcast};
-ghost use Rattle.card.specs.Soundness.{fitting, sound};
+ghost use Rattle.card.specs.Soundness.{withinRec, sound};
 use crate::Card;
 use crate::Phase;
 use frame::sizes::ADDRESS_WIDTH;
@@ -16,8 +16,8 @@ pub(crate) fn broadcast(address: [u8; ADDRESS_WIDTH]) -> bool
 
 impl Phase {
     // Whether the exchange that waits has no more DATA than a REC can have.
-    fn fitting(self) -> bool
-        ensures { λ r. ⌜ r ≡ fitting self ⌝ }
+    fn within_rec(self) -> bool
+        ensures { λ r. ⌜ r ≡ withinRec self ⌝ }
     {
         match self {
             Phase::Idle => true,
@@ -42,7 +42,7 @@ impl Card {
         }
         let exchange = self.exchange;
         let phase = exchange.phase;
-        if !phase.fitting() {
+        if !phase.within_rec() {
             return false;
         }
         let receiver = self.receiver;

@@ -23,7 +23,7 @@ use Rattle.card.specs.declared.Card.{Card}
 use Rattle.card.specs.declared.taking.Taken.{Taken}
 use Rattle.card.specs.declared.taking.Taken.the-variants as taking
 use Rattle.card.specs.Loan.{Loan, usable}
-use Rattle.card.specs.Parts.{idle, Response, telling}
+use Rattle.card.specs.Parts.{withoutWait, Response, telling}
 use Rattle.card.specs.Soundness.{sound}
 use Rattle.card.specs.Taking.{takenFor}
 use Rattle.card.specs.Frames.{written, acknowledged, enqFor, onEnq, onRec, authentic, autIn, onAut, onTrf, onTrb, onIb, respond, onFrame}
@@ -57,15 +57,15 @@ aut-framed : (p : Phase) (c : Card) (f : Fields) → Framed (autIn p c f .number
 unfolding autIn acknowledged
 aut-framed Idle c f = inl refl
 aut-framed (Waiting adp tab n) c f =
-    cond-framed (authentic (c .identity .key) (c .exchange .na2) adp f) _ _ (written-framed (idle c) _ tab _) (inr (omega arith, omega arith))
+    cond-framed (authentic (c .identity .key) (c .exchange .na2) adp f) _ _ (written-framed (withoutWait c) _ tab _) (inr (omega arith, omega arith))
 
 respond-framed : (t : Taken) (c : Card) (loan : Loan) (f : Fields) (d : List ℕ) → Framed (respond t c loan f d .number)
 unfolding respond onEnq onRec onAut onTrf onTrb onIb acknowledged
 respond-framed taking.Enq c loan f d = enq-framed _ (readable-bounded (attributesOf (c .records)) (f .tab)) c f
 respond-framed taking.Rec c loan f d = inl refl
 respond-framed taking.Aut c loan f d = aut-framed (c .exchange .phase) c f
-respond-framed taking.Trf c loan f d = written-framed (idle c) _ (f .tab) d
-respond-framed taking.Trb c loan f d = written-framed (idle c) _ (f .tab) d
+respond-framed taking.Trf c loan f d = written-framed (withoutWait c) _ (f .tab) d
+respond-framed taking.Trb c loan f d = written-framed (withoutWait c) _ (f .tab) d
 respond-framed taking.Ib c loan f d = inl refl
 respond-framed taking.None c loan f d = inl refl
 

@@ -12,8 +12,8 @@ use Rattle.card_memory.specs.Setup.{entryRecords, entryKindsKnown, setUp}
 use Rattle.card_exports.specs.Outcome.{Outcome, refused}
 
 -- For the private `judge` alone: the number of setup's answer where a kind that is none counts as a broken rule; 17 and 6 come before.
-abbrev pub judged : ℕ → Bool → ℕ
-judged number known = cond (eqb number wrongLength) wrongLength (cond (eqb number wrongAddress) wrongAddress (cond known number brokenRule))
+abbrev pub numberWithKinds : ℕ → Bool → ℕ
+numberWithKinds number known = cond (eqb number wrongLength) wrongLength (cond (eqb number wrongAddress) wrongAddress (cond known number brokenRule))
 
 -- "Setup checks: address is not broadcast (6); at most 32 records, no TAB twice, known kinds, limits in range (12); then each content in turn"; before
 -- them 17: "a lent key .. not of 8 octets, an address not of 6"

@@ -1,7 +1,7 @@
 // Setup over lent card memory.
 ghost use mathlib.Core.Path.{_≡_};
 ghost use Rattle.card.specs.Numbers.{answerNumber};
-ghost use Rattle.card_exports.specs.Setup.{judged, setupOutcome};
+ghost use Rattle.card_exports.specs.Setup.{numberWithKinds, setupOutcome};
 use card::Answer;
 use card::Card;
 use card_memory::layout;
@@ -12,7 +12,7 @@ use numbers::table::WRONG_LENGTH;
 
 // The number of a setup whose entries may have kinds that are none: those are 12, after 17 and 6 and before contents.
 fn judge(answer: Answer, known: bool) -> u8
-    ensures { λ r. ⌜ r ≡ judged (answerNumber answer) known ⌝ }
+    ensures { λ r. ⌜ r ≡ numberWithKinds (answerNumber answer) known ⌝ }
 {
     let number = answer.number();
     if number == WRONG_LENGTH {

@@ -1,7 +1,7 @@
 // Records that were read, for the swap file's writer.
 use printing::print;
 use swap::Kind;
-use swap::Records;
+use swap::RecordCount;
 use swap_list::Added;
 use swap_list::RecordList;
 use swap_write::Written;
@@ -30,7 +30,7 @@ pub(crate) fn nothing() -> Gathered {
 }
 
 // How many octets the heads of so many records have.
-fn head_octets(records: Records) -> usize {
+fn head_octets(records: RecordCount) -> usize {
     let count = records.0;
     if count < 4097 { 10 * count } else { 0 }
 }

@@ -12,7 +12,7 @@ use lib.ListN.{length, getD, take, length-map}
 use lib.Seq.{ext-getD, take-suc}
 use Rattle.des.specs.Tables.{IP, inverseIP, E, P, PC1, PC2}
 use Rattle.des.specs.Des.{bitsOf, permuted}
-use Rattle.des.specs.Words.{Word, within, Selects}
+use Rattle.des.specs.Words.{Word, entriesWithin, Selects}
 use Rattle.des.proofs.Strings.{AreBits, getD-bitsOf}
 use Rattle.des.proofs.Held.{joined, single}
 use Rattle.des.proofs.Tests.{below, at, left, right}
@@ -33,12 +33,12 @@ permuted-append [] u b = refl
 permuted-append (x ∷ t) u b = ap (λ (l : List ℕ). getD b (x - 1) 0 ∷ l) (permuted-append t u b)
 
 -- every entry of a table that is within n is from 1 to n
-pub within-at : (n : ℕ) (t : List ℕ) → T (within n t) → (i : ℕ) → i < length t → (1 ≤ getD t i 0) × (getD t i 0 ≤ n)
+pub within-at : (n : ℕ) (t : List ℕ) → T (entriesWithin n t) → (i : ℕ) → i < length t → (1 ≤ getD t i 0) × (getD t i 0 ≤ n)
 within-at n [] h i l = absurd (not-suc-le-zero l)
 within-at n (x ∷ t) h zero l =
-    let e = left (leb 1 x && leb x n) (within n t) h in
+    let e = left (leb 1 x && leb x n) (entriesWithin n t) h in
     (leb→le 1 x (left (leb 1 x) (leb x n) e), leb→le x n (right (leb 1 x) (leb x n) e))
-within-at n (x ∷ t) h (suc i) l = within-at n t (right (leb 1 x && leb x n) (within n t) h) i (le-of-suc-le-suc l)
+within-at n (x ∷ t) h (suc i) l = within-at n t (right (leb 1 x && leb x n) (entriesWithin n t) h) i (le-of-suc-le-suc l)
 
 -- the bit that an entry names, in a word of n bits
 pub named : (n w x : ℕ) → 1 ≤ x → x ≤ n → w / 2 ^ (n - x) % 2 ≡ getD (bitsOf n w) (x - 1) 0

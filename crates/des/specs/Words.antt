@@ -14,15 +14,15 @@ pub record Word (n : ℕ) (b : List ℕ) (w : ℕ) : Type 0 where
   pub same : bitsOf n w ≡ b
 
 -- every entry of a table is the number of a bit of a string of n bits
-abbrev pub within : ℕ → List ℕ → Bool
-within n [] = true
-within n (i ∷ is) = (leb 1 i && leb i n) && within n is
+abbrev pub entriesWithin : ℕ → List ℕ → Bool
+entriesWithin n [] = true
+entriesWithin n (i ∷ is) = (leb 1 i && leb i n) && entriesWithin n is
 
 -- a table of at most 64 numbers of bits of a string of n bits, of which there are at most 64
 pub record Selects (n : ℕ) (table : List ℕ) : Type 0 where
   pub bits : n ≤ 64
   pub entries : length table ≤ 64
-  pub inside : T (within n table)
+  pub inside : T (entriesWithin n table)
 
 -- the number of the round key that round n has: n in enciphering, 17 - n in deciphering
 abbrev pub order : Bool → ℕ → ℕ

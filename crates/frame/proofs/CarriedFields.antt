@@ -9,20 +9,20 @@ use Rattle.frame.specs.declared.layout.Presence.the-variants.{Absent, Ze
 use Rattle.frame.specs.declared.content.Fields.{Fields}
 use Rattle.frame.specs.Sizes.{fieldsAt, addressWidth, numberWidth}
 use Rattle.frame.specs.Layout.{layoutOf, placesOf}
-use Rattle.frame.specs.Content.{onWire, valueAt, octetAt, kept, keptOctet, fieldsOf, carried}
+use Rattle.frame.specs.Content.{onWire, valueAt, octetAt, carriedBy, carriedOctet, fieldsOf, carried}
 use Rattle.frame.specs.Building.{fixedOf, bodyOf, frameOctets}
 
 zeros-again : (n : ℕ) → replicate {A = ℕ} (length (replicate {A = ℕ} n 0)) 0 ≡ replicate n 0
 zeros-again n = ap (λ (k : ℕ). replicate {A = ℕ} k 0) (length-replicate n 0)
 
-kept-value : (p : Presence) (n : ℕ) (s : List ℕ) (at : ℕ) → kept p (valueAt p n s at) ≡ valueAt p n s at
-unfolding kept valueAt
+kept-value : (p : Presence) (n : ℕ) (s : List ℕ) (at : ℕ) → carriedBy p (valueAt p n s at) ≡ valueAt p n s at
+unfolding carriedBy valueAt
 kept-value Absent n s at = zeros-again n
 kept-value Zero n s at = zeros-again n
 kept-value Carried n s at = refl
 
-kept-octet : (p : Presence) (s : List ℕ) (at : ℕ) → keptOctet p (octetAt p s at) ≡ octetAt p s at
-unfolding keptOctet octetAt
+kept-octet : (p : Presence) (s : List ℕ) (at : ℕ) → carriedOctet p (octetAt p s at) ≡ octetAt p s at
+unfolding carriedOctet octetAt
 kept-octet Absent s at = refl
 kept-octet Zero s at = refl
 kept-octet Carried s at = refl
@@ -39,14 +39,14 @@ fields-carried c s =
       kept-value (l .announced) addressWidth s (p .announced .0),
     )
 
-wire-kept : (p : Presence) (v : List ℕ) → onWire p (kept p v) ≡ onWire p v
-unfolding onWire kept
+wire-kept : (p : Presence) (v : List ℕ) → onWire p (carriedBy p v) ≡ onWire p v
+unfolding onWire carriedBy
 wire-kept Absent v = refl
 wire-kept Zero v = zeros-again (length v)
 wire-kept Carried v = refl
 
-wire-kept-octet : (p : Presence) (x : ℕ) → onWire p (keptOctet p x ∷ []) ≡ onWire p (x ∷ [])
-unfolding onWire keptOctet
+wire-kept-octet : (p : Presence) (x : ℕ) → onWire p (carriedOctet p x ∷ []) ≡ onWire p (x ∷ [])
+unfolding onWire carriedOctet
 wire-kept-octet Absent x = refl
 wire-kept-octet Zero x = refl
 wire-kept-octet Carried x = refl

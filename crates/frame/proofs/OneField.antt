@@ -16,10 +16,10 @@ use Rattle.octets.proofs.Splice.{spliced-whole}
 use Rattle.frame.specs.declared.layout.Presence.{Presence}
 use Rattle.frame.specs.declared.layout.Presence.the-variants.{Absent, Zero, Carried}
 use Rattle.frame.specs.Layout.{width}
-use Rattle.frame.specs.Content.{turned, onWire, valueAt, octetAt, kept, keptOctet, inZero}
+use Rattle.frame.specs.Content.{turned, onWire, valueAt, octetAt, carriedBy, carriedOctet, inZero}
 
-pub value-on-wire : (p : Presence) (v : List ℕ) (n : ℕ) (before after : List ℕ) (at : ℕ) → length v ≡ n → length before ≡ at → valueAt p n (before ++ (onWire p v ++ after)) at ≡ kept p v
-unfolding onWire valueAt kept
+pub value-on-wire : (p : Presence) (v : List ℕ) (n : ℕ) (before after : List ℕ) (at : ℕ) → length v ≡ n → length before ≡ at → valueAt p n (before ++ (onWire p v ++ after)) at ≡ carriedBy p v
+unfolding onWire valueAt carriedBy
 value-on-wire Absent v n before after at e h = rw e
 value-on-wire Zero v n before after at e h = rw e
 value-on-wire Carried v n before after at e h =
@@ -27,8 +27,8 @@ value-on-wire Carried v n before after at e h =
     rw (part-middle before (reverse v) after at (at + n) h (omega arith), reverse-reverse)
     (spliced-whole (replicate n 0) v (e ∙ sym (length-replicate n 0)))
 
-pub octet-on-wire : (p : Presence) (x : ℕ) (before after : List ℕ) (at : ℕ) → length before ≡ at → octetAt p (before ++ (onWire p (x ∷ []) ++ after)) at ≡ keptOctet p x
-unfolding onWire octetAt keptOctet
+pub octet-on-wire : (p : Presence) (x : ℕ) (before after : List ℕ) (at : ℕ) → length before ≡ at → octetAt p (before ++ (onWire p (x ∷ []) ++ after)) at ≡ carriedOctet p x
+unfolding onWire octetAt carriedOctet
 octet-on-wire Absent x before after at h = refl
 octet-on-wire Zero x before after at h = refl
 octet-on-wire Carried x before after at h = getD-at before x after 0 at h

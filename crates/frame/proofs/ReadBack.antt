@@ -18,7 +18,7 @@ use Rattle.frame.specs.declared.content.Fields.{Fields}
 use Rattle.frame.specs.Sizes.{shortestFrame, longestFrame, adsAt, adpAt, comAt, fieldsAt, crcWidth, addressWidth, numberWidth, tabWidth}
 use Rattle.frame.specs.Codes.{codeOf, commandOf}
 use Rattle.frame.specs.Layout.{layoutOf, width, placesOf, wholeLength, within}
-use Rattle.frame.specs.Content.{Shaped, onWire, valueAt, octetAt, kept, keptOctet, fieldsOf, dataOf, carried}
+use Rattle.frame.specs.Content.{Shaped, onWire, valueAt, octetAt, carriedBy, carriedOctet, fieldsOf, dataOf, carried}
 use Rattle.frame.specs.Checks.{statedBy, judged, judgedAs, inspected, inspectedAs, readOf, fieldsIn}
 use Rattle.frame.specs.Building.{headOf, fixedOf, bodyOf, frameOctets}
 use Rattle.frame.proofs.CodeTable.{found}
@@ -40,7 +40,7 @@ module _ (n : ℕ) (ads : List ℕ) (adp code : ℕ) (rest : List ℕ) (six : le
   head-n = rw split
 
   head-ads : valueAt Carried 6 (headOf n ads adp code ++ rest) 1 ≡ ads
-  unfolding onWire kept
+  unfolding onWire carriedBy
   head-ads = rw split (value-on-wire Carried ads 6 (n ∷ []) (adp ∷ code ∷ rest) 1 six refl)
 
   head-adp : getD (headOf n ads adp code ++ rest) 7 0 ≡ adp
@@ -113,24 +113,24 @@ module _ (c : Command) (f : Fields) (d : List ℕ) (long : Shaped f) where
   reads-adp : getD (frameOctets c f d) adpAt 0 ≡ f .adp
   reads-adp = rw nested (head-adp _ (f .ads) (f .adp) (codeOf c) _ (long .ads-long))
 
-  reads-za1 : valueAt (layoutOf c .za1) numberWidth (frameOctets c f d) fieldsAt ≡ kept (layoutOf c .za1) (f .za1)
+  reads-za1 : valueAt (layoutOf c .za1) numberWidth (frameOctets c f d) fieldsAt ≡ carriedBy (layoutOf c .za1) (f .za1)
   reads-za1 =
       rw nested
       (value-on-wire (layoutOf c .za1) (f .za1) numberWidth head (za2 ++ (tab ++ (announced ++ (d ++ key)))) 9 (long .za1-long) nine)
 
-  reads-za2 : valueAt (layoutOf c .za2) numberWidth (frameOctets c f d) (placesOf (layoutOf c) .za2 .0) ≡ kept (layoutOf c .za2) (f .za2)
+  reads-za2 : valueAt (layoutOf c .za2) numberWidth (frameOctets c f d) (placesOf (layoutOf c) .za2 .0) ≡ carriedBy (layoutOf c .za2) (f .za2)
   reads-za2 =
       rw (nested, cut-2 head za1 za2 tab announced d key)
       (value-on-wire (layoutOf c .za2) (f .za2) numberWidth (head ++ za1) (tab ++ (announced ++ (d ++ key))) (placesOf (layoutOf c) .za2 .0) (long .za2-long)
       (rw (length-append, nine, z1)))
 
-  reads-tab : octetAt (layoutOf c .tab) (frameOctets c f d) (placesOf (layoutOf c) .tab .0) ≡ keptOctet (layoutOf c .tab) (f .tab)
+  reads-tab : octetAt (layoutOf c .tab) (frameOctets c f d) (placesOf (layoutOf c) .tab .0) ≡ carriedOctet (layoutOf c .tab) (f .tab)
   reads-tab =
       rw (nested, cut-3 head za1 za2 tab announced d key)
       (octet-on-wire (layoutOf c .tab) (f .tab) (head ++ za1 ++ za2) (announced ++ (d ++ key)) (placesOf (layoutOf c) .tab .0)
       (rw (length-append, length-append, nine, z1, z2)))
 
-  reads-announced : valueAt (layoutOf c .announced) addressWidth (frameOctets c f d) (placesOf (layoutOf c) .announced .0) ≡ kept (layoutOf c .announced) (f .announced)
+  reads-announced : valueAt (layoutOf c .announced) addressWidth (frameOctets c f d) (placesOf (layoutOf c) .announced .0) ≡ carriedBy (layoutOf c .announced) (f .announced)
   reads-announced =
       rw (nested, cut-4 head za1 za2 tab announced d key)
       (value-on-wire (layoutOf c .announced) (f .announced) addressWidth (head ++ za1 ++ za2 ++ tab) (d ++ key) (placesOf (layoutOf c) .announced .0) (long .announced-long)

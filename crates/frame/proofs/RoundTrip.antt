@@ -18,7 +18,7 @@ use Rattle.frame.specs.Sizes.{longestFrame, crcWidth}
 use Rattle.frame.specs.Layout.{layoutOf, placesOf, wholeLength, within}
 use Rattle.frame.specs.Content.{Shaped, fieldsOf, dataOf, carried, inZeroField}
 use Rattle.frame.specs.Checks.{inspected, readOf, fieldsIn}
-use Rattle.frame.specs.Building.{frameOctets, refusedWith, over, built}
+use Rattle.frame.specs.Building.{frameOctets, refusedWith, laidOver, built}
 use Rattle.frame.proofs.Widths.{has-bounds}
 use Rattle.frame.proofs.Writing.{length-octets}
 use Rattle.frame.proofs.GoodFrame.{GoodFrame, inspected-good}
@@ -35,7 +35,7 @@ module _ (b : List ℕ) (c : Command) (f : Fields) (d : List ℕ) where
   unfolding built
   built-beyond h w = rw (le-leb longestFrame (length b) h, w)
 
-  pub built-made : longestFrame ≤ length b → within (layoutOf c) (length d) ≡ true → built b c f d ≡ over (frameOctets c f d) b
+  pub built-made : longestFrame ≤ length b → within (layoutOf c) (length d) ≡ true → built b c f d ≡ laidOver (frameOctets c f d) b
   unfolding built
   built-made h w = rw (le-leb longestFrame (length b) h, w)
 
@@ -61,7 +61,7 @@ data-within c s g =
 -- a good frame whose zero fields hold zero, read and built again, gives the same octets
 pub read-builds-again : (b : List ℕ) (c : Command) (s : List ℕ) → inspected s ≡ given c → ((i : ℕ) → getD s i 0 < 256)
     → ((i : ℕ) → inZeroField (layoutOf c) i ≡ true → getD s i 0 ≡ 0) → longestFrame ≤ length b
-    → built b c (readOf s .fields) (dataOf c s) ≡ over s b
+    → built b c (readOf s .fields) (dataOf c s) ≡ laidOver s b
 unfolding readOf fieldsIn
 read-builds-again b c s e octets zero h =
     let g = inspected-good s c e in

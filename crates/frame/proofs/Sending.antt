@@ -15,11 +15,11 @@ use Rattle.frame.specs.declared.builder.Built.{Built}
 use Rattle.frame.specs.declared.builder.Built.the-variants.{Frame, Refused}
 use Rattle.frame.specs.Sizes.{longestFrame}
 use Rattle.frame.specs.Layout.{layoutOf, within}
-use Rattle.frame.specs.Building.{refusalNumber, answerOfBuilt, frameOctets, over, built, Sends}
+use Rattle.frame.specs.Building.{refusalNumber, answerOfBuilt, frameOctets, laidOver, built, Sends}
 use Rattle.frame.proofs.RoundTrip.{built-made}
 
 module _ (b : List ℕ) (k : Command) (f : Fields) (d : List ℕ) (capacity : longestFrame ≤ length b) (amount : within (layoutOf k) (length d) ≡ true) where
-  made : built b k f d ≡ over (frameOctets k f d) b
+  made : built b k f d ≡ laidOver (frameOctets k f d) b
   made = built-made b k f d capacity amount
 
   module _ (answer : Built) (after : List ℕ) (e : answerOfBuilt answer ≡ built b k f d .answer) (l : after ≡ built b k f d .buffer) where

@@ -63,14 +63,14 @@ abbrev pub refusedWith : ℕ → List ℕ → Outcome
 refusedWith n b = record { answer = refused n; buffer = b }
 
 -- a frame over the front of the buffer; the octets past it stay
-abbrev pub over : List ℕ → List ℕ → Outcome
-over s b = record { answer = given (inOctets (length s)); buffer = fronted s b }
+abbrev pub laidOver : List ℕ → List ℕ → Outcome
+laidOver s b = record { answer = given (inOctets (length s)); buffer = fronted s b }
 
 -- 01, Numbers handed back: 17 first, a buffer under 128 octets; then 7, DATA too long, or for ASO no TABi; else the frame over the buffer's front
 unfoldable pub built : List ℕ → Command → Fields → List ℕ → Outcome
 built b c f d =
     cond (leb longestFrame (length b))
-    (cond (within (layoutOf c) (length d)) (over (frameOctets c f d) b) (refusedWith tooLong b))
+    (cond (within (layoutOf c) (length d)) (laidOver (frameOctets c f d) b) (refusedWith tooLong b))
     (refusedWith wrongLength b)
 
 -- For private functions of the card and the tool alone: what sending a frame leaves in the lent buffer, and its length.

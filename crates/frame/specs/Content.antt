@@ -70,15 +70,15 @@ unfoldable pub dataOf : Command → List ℕ → List ℕ
 dataOf c s = partOf s (placesOf (layoutOf c) .content .0) (length s - crcWidth)
 
 -- what a field with the value v carries
-unfoldable pub kept : Presence → List ℕ → List ℕ
-kept Absent v = replicate (length v) 0
-kept Zero v = replicate (length v) 0
-kept Carried v = v
+unfoldable pub carriedBy : Presence → List ℕ → List ℕ
+carriedBy Absent v = replicate (length v) 0
+carriedBy Zero v = replicate (length v) 0
+carriedBy Carried v = v
 
-unfoldable pub keptOctet : Presence → ℕ → ℕ
-keptOctet Absent x = 0
-keptOctet Zero x = 0
-keptOctet Carried x = x
+unfoldable pub carriedOctet : Presence → ℕ → ℕ
+carriedOctet Absent x = 0
+carriedOctet Zero x = 0
+carriedOctet Carried x = x
 
 -- of these fields those that the command carries; the others are zero
 unfoldable pub carried : Command → Fields → Fields
@@ -87,10 +87,10 @@ carried c f =
     record {
       ads = f .ads;
       adp = f .adp;
-      za1 = kept (l .za1) (f .za1);
-      za2 = kept (l .za2) (f .za2);
-      tab = keptOctet (l .tab) (f .tab);
-      announced = kept (l .announced) (f .announced);
+      za1 = carriedBy (l .za1) (f .za1);
+      za2 = carriedBy (l .za2) (f .za2);
+      tab = carriedOctet (l .tab) (f .tab);
+      announced = carriedBy (l .announced) (f .announced);
     }
 
 -- whether offset i lies in a zero field of n octets at offset at

@@ -11,7 +11,7 @@ use lib.Dec.{leb, lit≤}
 use Rattle.octets.specs.Part.{partOf}
 use Rattle.octets.proofs.Parts.{length-part, part-none}
 use Rattle.octets.proofs.Splice.{spliced-nothing}
-use Rattle.text.specs.Text.{hexText, after}
+use Rattle.text.specs.Text.{hexText, offsetAfter}
 use Rattle.text.proofs.Writing.{Written, joined}
 use Rattle.text.proofs.Hexadecimal.{length-hex}
 use Rattle.frame.specs.declared.codes.Command.{Command}
@@ -28,7 +28,7 @@ use Rattle.frame_text.specs.Words.{mostData, mostHeadWords, dataWords, i
 
 -- a text of no octets is written anywhere
 pub nothing-written : (m : List ℕ) (at : ℕ) → Written m at [] at m
-unfolding after
+unfolding offsetAfter
 nothing-written m at = (rw add-zero (either (leb at (length m))), sym (spliced-nothing m at))
   where
     either : (t : Bool) → at ≡ cond t at at

@@ -3,7 +3,7 @@ ghost use mathlib.Core.Path.{_≡_};
 ghost use Prim.Native.Nat.{_+_, _≤_};
 ghost use lib.ListN.{length};
 ghost use Rattle.octets.specs.Splice.{spliced};
-ghost use Rattle.text.specs.Text.{after};
+ghost use Rattle.text.specs.Text.{offsetAfter};
 ghost use Rattle.frame_text.specs.declared.items.Item.the-variants.{Nothing};
 ghost use Rattle.frame_text.specs.Words.{mostData, row, itemsOf, widths, dataWords, itemWords, itemsWords};
 use frame::Command;
@@ -87,7 +87,7 @@ pub(crate) fn put_items(
     data: &[u8],
 ) -> Octets
     requires { ⌜ (at .0 + widths items ≤ length (now buffer)) × (length (now «data») ≤ mostData) ⌝ }
-    ensures { λ r. ⌜ (r .0 ≡ after (now (buffer .entry)) (at .0) (itemsWords items fields (now («data» .entry)))) × (now (buffer .exit) ≡ spliced (now (buffer .entry)) (at .0) (itemsWords items fields (now («data» .entry)))) ⌝ }
+    ensures { λ r. ⌜ (r .0 ≡ offsetAfter (now (buffer .entry)) (at .0) (itemsWords items fields (now («data» .entry)))) × (now (buffer .exit) ≡ spliced (now (buffer .entry)) (at .0) (itemsWords items fields (now («data» .entry)))) ⌝ }
 {
     let first = items.first;
     let second = items.second;
@@ -100,7 +100,7 @@ pub(crate) fn put_items(
 }
 
 fn put_item(buffer: &mut [u8], at: Octets, item: Item, fields: Fields, data: &[u8]) -> Octets
-    ensures { λ r. ⌜ (r .0 ≡ after (now (buffer .entry)) (at .0) (itemWords item fields (now («data» .entry)))) × (now (buffer .exit) ≡ spliced (now (buffer .entry)) (at .0) (itemWords item fields (now («data» .entry)))) ⌝ }
+    ensures { λ r. ⌜ (r .0 ≡ offsetAfter (now (buffer .entry)) (at .0) (itemWords item fields (now («data» .entry)))) × (now (buffer .exit) ≡ spliced (now (buffer .entry)) (at .0) (itemWords item fields (now («data» .entry)))) ⌝ }
 {
     let za1 = fields.za1;
     let za2 = fields.za2;
@@ -120,7 +120,7 @@ fn put_item(buffer: &mut [u8], at: Octets, item: Item, fields: Fields, data: &[u
 
 // DATA of no octets is its name alone.
 fn put_data(buffer: &mut [u8], at: Octets, data: &[u8]) -> Octets
-    ensures { λ r. ⌜ (r .0 ≡ after (now (buffer .entry)) (at .0) (dataWords (now («data» .entry)))) × (now (buffer .exit) ≡ spliced (now (buffer .entry)) (at .0) (dataWords (now («data» .entry)))) ⌝ }
+    ensures { λ r. ⌜ (r .0 ≡ offsetAfter (now (buffer .entry)) (at .0) (dataWords (now («data» .entry)))) × (now (buffer .exit) ≡ spliced (now (buffer .entry)) (at .0) (dataWords (now («data» .entry)))) ⌝ }
 {
     if data.len() == 0 {
         return put_words(buffer, at, b" DATA");

@@ -5,7 +5,7 @@ ghost use mathlib.Core.Path.{_≡_};
 ghost use Prim.Native.Nat.{_+_, _≤_};
 ghost use lib.ListN.{length};
 ghost use Rattle.octets.specs.Splice.{spliced};
-ghost use Rattle.text.specs.Text.{after};
+ghost use Rattle.text.specs.Text.{offsetAfter};
 ghost use Rattle.frame_text.specs.Names.{nameOf};
 ghost use Rattle.frame_text.specs.Words.{mostData, mostWords, mostHeadWords, headWords, wordsOf, frameEnd, frameOver};
 use frame::Command;
@@ -51,7 +51,7 @@ fn put_whole(buffer: &mut [u8], at: Octets, command: Command, fields: Fields, da
 // The command, ADS and ADP.
 fn put_head(buffer: &mut [u8], at: Octets, command: Command, fields: Fields) -> Octets
     requires { ⌜ at .0 + mostHeadWords ≤ length (now buffer) ⌝ }
-    ensures { λ r. ⌜ (r .0 ≡ after (now (buffer .entry)) (at .0) (headWords command fields)) × (now (buffer .exit) ≡ spliced (now (buffer .entry)) (at .0) (headWords command fields)) ⌝ }
+    ensures { λ r. ⌜ (r .0 ≡ offsetAfter (now (buffer .entry)) (at .0) (headWords command fields)) × (now (buffer .exit) ≡ spliced (now (buffer .entry)) (at .0) (headWords command fields)) ⌝ }
 {
     let ads = fields.ads;
     let ads_at = put_name(buffer, at, command);
@@ -61,7 +61,7 @@ fn put_head(buffer: &mut [u8], at: Octets, command: Command, fields: Fields) -> 
 
 // The names stand in the order of the codes, three letters for each from 00 on; no command has the codes 00 and 0F.
 fn put_name(buffer: &mut [u8], at: Octets, command: Command) -> Octets
-    ensures { λ r. ⌜ (r .0 ≡ after (now (buffer .entry)) (at .0) (nameOf command)) × (now (buffer .exit) ≡ spliced (now (buffer .entry)) (at .0) (nameOf command)) ⌝ }
+    ensures { λ r. ⌜ (r .0 ≡ offsetAfter (now (buffer .entry)) (at .0) (nameOf command)) × (now (buffer .exit) ≡ spliced (now (buffer .entry)) (at .0) (nameOf command)) ⌝ }
 {
     let names = b"   ENQDATRECECHAUTEOSASORSOIB DRJARJTRFTRBTRA   PRESEL";
     let code = frame::codes::code(command) as usize;

@@ -30,7 +30,7 @@ use Rattle.card.specs.declared.Card.{Card}
 use Rattle.card.specs.declared.taking.Taken.{Taken}
 use Rattle.card.specs.declared.taking.Taken.the-variants as taking
 use Rattle.card.specs.Loan.{Loan}
-use Rattle.card.specs.Parts.{Response, idle, withExchange}
+use Rattle.card.specs.Parts.{Response, withoutWait, withExchange}
 use Rattle.card.specs.Taking.{takenIf, takenFor}
 use Rattle.card.specs.Frames as card
 use Rattle.card.specs.Events as card-events
@@ -122,7 +122,7 @@ module _ (s : Setup) where
     waits-agree : (e : CardExchange) (w : Wait) → waitOf e ≡ w → StationAgrees s (withExchange e c) (withWait w b)
     waits-agree e w q = record { address = h .address; key = h .key; attributes = h .attributes; contents = h .contents; wait = q }
 
-    idle-agrees : StationAgrees s (idle c) (withWait None b)
+    idle-agrees : StationAgrees s (withoutWait c) (withWait None b)
     idle-agrees = waits-agree _ None refl
 
     opened-agrees : (loan : Loan) (f : Fields) (d : List ℕ) → StationAgrees s (card.waitingFor c loan f d) (withWait (Exchange (f .adp) (f .tab) d (loan .na2)) b)
@@ -158,15 +158,15 @@ module _ (s : Setup) where
         let waits : b .wait ≡ Exchange adp tab d (c .exchange .na2) = sym (h .wait) ∙ ap (λ p. waitIn p (c .exchange .content) (c .exchange .na2)) e in
         let ended = idle-agrees c b h in
         rw waits
-        (cond-agrees _ _ (ap (λ (key : List ℕ). eqb adp (f .adp) && same (f .za2) (encipher key (c .exchange .na2))) (h .key)) _ _ _ _ (written-agrees (idle c) (withWait None b) ended rules (Programmed adp) tab d) ended)
+        (cond-agrees _ _ (ap (λ (key : List ℕ). eqb adp (f .adp) && same (f .za2) (encipher key (c .exchange .na2))) (h .key)) _ _ _ _ (written-agrees (withoutWait c) (withWait None b) ended rules (Programmed adp) tab d) ended)
 
     respond-agrees : (t : Taken) (loan : Loan) (f : Fields) (d : List ℕ) → StationAgrees s (card.respond t c loan f d .card) (onRole (roleTaken t) s loan f d b)
     unfolding card.respond card.onEnq card.onRec card.onAut card.onTrf card.onTrb card.onIb card.acknowledged onRole
     respond-agrees taking.Enq loan f d = enq-agrees (findReadable (attributesOf (c .records)) (f .tab)) f
     respond-agrees taking.Rec loan f d = opened-agrees c b h loan f d
     respond-agrees taking.Aut loan f d = aut-agrees (c .exchange .phase) refl f
-    respond-agrees taking.Trf loan f d = written-agrees (idle c) (withWait None b) (idle-agrees c b h) rules (Transferred (f .adp)) (f .tab) d
-    respond-agrees taking.Trb loan f d = written-agrees (idle c) (withWait None b) (idle-agrees c b h) rules (Broadcast (f .adp)) (f .tab) d
+    respond-agrees taking.Trf loan f d = written-agrees (withoutWait c) (withWait None b) (idle-agrees c b h) rules (Transferred (f .adp)) (f .tab) d
+    respond-agrees taking.Trb loan f d = written-agrees (withoutWait c) (withWait None b) (idle-agrees c b h) rules (Broadcast (f .adp)) (f .tab) d
     respond-agrees taking.Ib loan f d = idle-agrees c b h
     respond-agrees taking.None loan f d = h
 

@@ -20,7 +20,7 @@ use Rattle.card.specs.Loan.{Loan, Usable}
 use Rattle.card.specs.Events.{Call, SessionEnd, MeterWrite, Octet}
 use Rattle.card.specs.Feeding.{Handed, octetsIn, lastLoan, AllUsable}
 use Rattle.history.specs.Book.{Setup, Exchange, None, Book, withReceiver, withWait, Cause, Metered, Programmed, Transferred, Broadcast, causeOf, note, authenticated, roleOf, onRole, onFrame, heardAs, heard, step, steps}
-use Rattle.history.specs.Granted.{sent, Authentic}
+use Rattle.history.specs.Granted.{callsSending, Authentic}
 
 pub steps-append : (s : Setup) (h k : List Call) (b : Book) → steps s b (h ++ k) ≡ steps s (steps s b h) k
 unfolding steps
@@ -38,7 +38,7 @@ module _ (s : Setup) where
   octet-heard b o loan u = rw (le-ltb (loan .reply) longestFrame (u .enough), eq-eqb _ _ (u .eight))
 
   until : (f : List ℕ) (k : Command) (x : List Handed) → AllUsable x → (n : ℕ) (b : Book) → onOctets (octetsIn x) (b .receiver) .outcomes ≡ replicate n Silent ++ (Complete k f ∷ []) → onOctets (octetsIn x) (b .receiver) .last ≡ Awaiting
-      → steps s b (sent x) ≡ onFrame k s (lastLoan x) (fieldsOf k f) (dataOf k f) (withReceiver Awaiting b)
+      → steps s b (callsSending x) ≡ onFrame k s (lastLoan x) (fieldsOf k f) (dataOf k f) (withReceiver Awaiting b)
   unfolding onOctets steps heardAs
   until f k [] all n b e l = some-left n (Complete k f) e
   until f k (h ∷ []) all zero b e l =
@@ -51,11 +51,11 @@ module _ (s : Setup) where
       let next = withReceiver (onOctet (h .octet) (b .receiver) .next) b in
       let rest : onOctets (octetsIn (g ∷ x)) (next .receiver) .outcomes ≡ replicate n Silent ++ (Complete k f ∷ []) = cc in
       let here : step s b (Octet (h .octet) (h .loan)) ≡ next = octet-heard b (h .octet) (h .loan) (all .0) ∙ rw out in
-      ap (λ (c : Book). steps s c (sent (g ∷ x))) here ∙ until f k (g ∷ x) (all .1) n next rest l
+      ap (λ (c : Book). steps s c (callsSending (g ∷ x))) here ∙ until f k (g ∷ x) (all .1) n next rest l
 
   -- a good frame that comes whole is heard with its last octet, and with what is lent with that octet
   pub frame-heard : (x : List Handed) → AllUsable x → (k : Command) → inspected (octetsIn x) ≡ given k → (b : Book) → b .receiver ≡ Awaiting
-      → steps s b (sent x) ≡ onFrame k s (lastLoan x) (fieldsOf k (octetsIn x)) (dataOf k (octetsIn x)) (withReceiver Awaiting b)
+      → steps s b (callsSending x) ≡ onFrame k s (lastLoan x) (fieldsOf k (octetsIn x)) (dataOf k (octetsIn x)) (withReceiver Awaiting b)
   frame-heard x all k good b empty =
       let f = octetsIn x in
       let e = ap (onOctets f) empty ∙ good-frame f k good in
@@ -73,7 +73,7 @@ meter-write-noted s b t d i g = note-granted s Metered t d b i g
 module _ (s : Setup) (x : List Handed) (all : AllUsable x) (b : Book) (empty : b .receiver ≡ Awaiting) (i : ℕ) where
   pub transfer-noted : inspected (octetsIn x) ≡ given Trf → fieldsOf Trf (octetsIn x) .ads ≡ s .address
       → grant (s .attributes) (causeOf (Transferred (fieldsOf Trf (octetsIn x) .adp))) (fieldsOf Trf (octetsIn x) .tab) (dataOf Trf (octetsIn x)) ≡ given i
-      → steps s b (sent x) .noted (fieldsOf Trf (octetsIn x) .tab) ≡ dataOf Trf (octetsIn x)
+      → steps s b (callsSending x) .noted (fieldsOf Trf (octetsIn x) .tab) ≡ dataOf Trf (octetsIn x)
   unfolding onFrame roleOf onRole
   transfer-noted good own g =
       let f = fieldsOf Trf (octetsIn x) in
@@ -82,7 +82,7 @@ module _ (s : Setup) (x : List Handed) (all : AllUsable x) (b : Book) (empty : b
 
   pub broadcast-noted : inspected (octetsIn x) ≡ given Trb → fieldsOf Trb (octetsIn x) .ads ≡ replicate addressWidth 0
       → grant (s .attributes) (causeOf (Broadcast (fieldsOf Trb (octetsIn x) .adp))) (fieldsOf Trb (octetsIn x) .tab) (dataOf Trb (octetsIn x)) ≡ given i
-      → steps s b (sent x) .noted (fieldsOf Trb (octetsIn x) .tab) ≡ dataOf Trb (octetsIn x)
+      → steps s b (callsSending x) .noted (fieldsOf Trb (octetsIn x) .tab) ≡ dataOf Trb (octetsIn x)
   unfolding onFrame roleOf onRole
   broadcast-noted good everyone g =
       let f = fieldsOf Trb (octetsIn x) in
@@ -93,18 +93,18 @@ module _ (s : Setup) (x : List Handed) (first : AllUsable x) (y : List Handed) (
   opened : Book
   opened = withWait (Exchange (fieldsOf Rec (octetsIn x) .adp) (fieldsOf Rec (octetsIn x) .tab) (dataOf Rec (octetsIn x)) (lastLoan x .na2)) (withReceiver Awaiting b)
 
-  rec-heard : steps s b (sent x) ≡ opened
+  rec-heard : steps s b (callsSending x) ≡ opened
   unfolding opened onFrame roleOf onRole
   rec-heard = frame-heard s x first Rec (a .rec) b empty ∙ rw (a .rec-own, same-self)
 
   pub exchange-noted : (i : ℕ) → grant (s .attributes) (causeOf (Programmed (fieldsOf Rec (octetsIn x) .adp))) (fieldsOf Rec (octetsIn x) .tab) (dataOf Rec (octetsIn x)) ≡ given i
-      → steps s b (sent x ++ sent y) .noted (fieldsOf Rec (octetsIn x) .tab) ≡ dataOf Rec (octetsIn x)
+      → steps s b (callsSending x ++ callsSending y) .noted (fieldsOf Rec (octetsIn x) .tab) ≡ dataOf Rec (octetsIn x)
   unfolding opened onFrame roleOf onRole authenticated
   exchange-noted i grants =
       rw (steps-append, rec-heard, frame-heard s y second Aut (a .aut) opened refl, a .aut-own, same-self, eq-eqb _ _ (a .primary), a .cipher, same-self)
       (note-granted s _ (fieldsOf Rec (octetsIn x) .tab) (dataOf Rec (octetsIn x)) (withWait None (withReceiver Awaiting opened)) i grants)
 
-  pub ended-unnoted : (t : ℕ) → steps s b (sent x ++ (SessionEnd ∷ sent y)) .noted t ≡ b .noted t
+  pub ended-unnoted : (t : ℕ) → steps s b (callsSending x ++ (SessionEnd ∷ callsSending y)) .noted t ≡ b .noted t
   unfolding opened onFrame roleOf onRole authenticated steps step
   ended-unnoted t =
       rw (steps-append, rec-heard, frame-heard s y second Aut (a .aut) (withReceiver Awaiting (withWait None opened)) refl, a .aut-own, same-self)

@@ -28,7 +28,7 @@ use Rattle.card.specs.declared.Card.{Card}
 use Rattle.card.specs.declared.taking.Taken.{Taken}
 use Rattle.card.specs.declared.taking.Taken.the-variants as taking
 use Rattle.card.specs.Loan.{Loan}
-use Rattle.card.specs.Parts.{Response, idle}
+use Rattle.card.specs.Parts.{Response, withoutWait}
 use Rattle.card.specs.Taking.{takenFor}
 use Rattle.card.specs.Frames as card
 use Rattle.history.specs.Book.{Setup, None, Exchange, Book, Cause, Programmed, Transferred, Broadcast, causeOf, Role}
@@ -54,7 +54,7 @@ chosen part a b q x y u v e f = rw q (by b)
     by false = f
 
 module _ (s : Setup) (c : Card) (b : Book) (h : StationAgrees s c b) where
-  bus-reply : (cause : Cause) (t : ℕ) (d : List ℕ) (done : Command) (f : Fields) → card.acknowledged (idle c) (causeOf cause) t d done f .reply ≡ writeReply (grant (s .attributes) (causeOf cause) t d) done f
+  bus-reply : (cause : Cause) (t : ℕ) (d : List ℕ) (done : Command) (f : Fields) → card.acknowledged (withoutWait c) (causeOf cause) t d done f .reply ≡ writeReply (grant (s .attributes) (causeOf cause) t d) done f
   unfolding card.acknowledged card.written
   bus-reply cause t d done f =
       acknowledged-as (grant (attributesOf (c .records)) (causeOf cause) t d) (grant-bounded (attributesOf (c .records)) (causeOf cause) t d) done f
@@ -83,7 +83,7 @@ module _ (s : Setup) (c : Card) (b : Book) (h : StationAgrees s c b) where
       let d = take (n .0) (c .exchange .content) in
       let waits : b .wait ≡ Exchange adp tab d (c .exchange .na2) = sym (h .wait) ∙ ap (λ p. waitIn p (c .exchange .content) (c .exchange .na2)) e in
       let tested = ap (λ (key : List ℕ). eqb adp (f .adp) && same (f .za2) (encipher key (c .exchange .na2))) (h .key) in
-      rw waits (chosen (λ (r : Response). r .reply) _ _ tested (card.acknowledged (idle c) (causeOf (Programmed adp)) tab d Eos f) _ _ _ (bus-reply (Programmed adp) tab d Eos f) refl)
+      rw waits (chosen (λ (r : Response). r .reply) _ _ tested (card.acknowledged (withoutWait c) (causeOf (Programmed adp)) tab d Eos f) _ _ _ (bus-reply (Programmed adp) tab d Eos f) refl)
 
   respond-reply : (t : Taken) (loan : Loan) (f : Fields) (d : List ℕ) → card.respond t c loan f d .reply ≡ replyAs (roleTaken t) s b loan f d
   unfolding card.respond card.onEnq card.onRec card.onAut card.onTrf card.onTrb card.onIb card.written replyAs
@@ -102,7 +102,7 @@ module _ (s : Setup) (c : Card) (b : Book) (h : StationAgrees s c b) where
       let role = ap (λ (own : List ℕ). roleTaken (takenFor own k (f .ads))) (h .address) ∙ same-role s k f in
       respond-reply (takenFor (c .identity .address) k (f .ads)) loan f d ∙ ap (λ (x : Role). replyAs x s b loan f d) role
 
-  bus-number : (cause : Cause) (t : ℕ) (d : List ℕ) → card.written (idle c) (causeOf cause) t d .number ≡ numberOf (grant (s .attributes) (causeOf cause) t d)
+  bus-number : (cause : Cause) (t : ℕ) (d : List ℕ) → card.written (withoutWait c) (causeOf cause) t d .number ≡ numberOf (grant (s .attributes) (causeOf cause) t d)
   unfolding card.written
   bus-number cause t d = ap (λ (l : List Attributes). numberOf (grant l (causeOf cause) t d)) (h .attributes)
 
@@ -121,7 +121,7 @@ module _ (s : Setup) (c : Card) (b : Book) (h : StationAgrees s c b) where
       let d = take (n .0) (c .exchange .content) in
       let waits : b .wait ≡ Exchange adp tab d (c .exchange .na2) = sym (h .wait) ∙ ap (λ p. waitIn p (c .exchange .content) (c .exchange .na2)) e in
       let tested = ap (λ (key : List ℕ). eqb adp (f .adp) && same (f .za2) (encipher key (c .exchange .na2))) (h .key) in
-      rw waits (chosen (λ (r : Response). r .number) _ _ tested (card.acknowledged (idle c) (causeOf (Programmed adp)) tab d Eos f) _ _ _ (bus-number (Programmed adp) tab d) refl)
+      rw waits (chosen (λ (r : Response). r .number) _ _ tested (card.acknowledged (withoutWait c) (causeOf (Programmed adp)) tab d Eos f) _ _ _ (bus-number (Programmed adp) tab d) refl)
 
   respond-number : (t : Taken) (loan : Loan) (f : Fields) (d : List ℕ) → card.respond t c loan f d .number ≡ numberAs (roleTaken t) s b f d
   unfolding card.respond card.onEnq card.onRec card.onAut card.onTrf card.onTrb card.onIb card.acknowledged numberAs

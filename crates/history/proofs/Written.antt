@@ -28,7 +28,7 @@ use Rattle.card.specs.Events.{Call, SessionEnd, MeterWrite}
 use Rattle.card.specs.Feeding.{Handed, octetsIn, AllUsable}
 use Rattle.history.specs.Book.{Setup, Book, None, withReceiver, withWait, Cause, Metered, Programmed, Transferred, Broadcast, causeOf, step, steps, setupOf, fresh, bookOf}
 use Rattle.history.specs.Claim.{Holds, run, Arrays}
-use Rattle.history.specs.Granted.{TextWithin, Acceptable, Named, Granted, sent, Authentic}
+use Rattle.history.specs.Granted.{TextWithin, Acceptable, Named, Granted, callsSending, Authentic}
 use Rattle.history.proofs.Start.{setup-accepted}
 use Rattle.history.proofs.History.{run-whole, history-kept, kept-in-use, kept-attributes}
 use Rattle.history.proofs.Grants.{acceptable-means, granted-means}
@@ -67,20 +67,20 @@ module _ (address key : List ℕ) (first : Records) (arrays : Arrays first) (acc
 
   module _ (x : List Handed) (all : AllUsable x) (place : ℕ) where
     pub transfer-written : inspected (octetsIn x) ≡ answer.given Trf → fieldsOf Trf (octetsIn x) .ads ≡ address → Granted first (Transferred (fieldsOf Trf (octetsIn x) .adp)) (fieldsOf Trf (octetsIn x) .tab) (dataOf Trf (octetsIn x)) place
-        → Holds (dataOf Trf (octetsIn x)) (recordAt (run (afterSetup address key first .card) (past ++ (SessionEnd ∷ sent x)) .records) place)
+        → Holds (dataOf Trf (octetsIn x)) (recordAt (run (afterSetup address key first .card) (past ++ (SessionEnd ∷ callsSending x)) .records) place)
     unfolding ended
-    transfer-written good own g = held _ _ _ place (g .named) (after-end (sent x) _ _ (transfer-noted s x all ended refl place good own (finds _ _ _ place g)))
+    transfer-written good own g = held _ _ _ place (g .named) (after-end (callsSending x) _ _ (transfer-noted s x all ended refl place good own (finds _ _ _ place g)))
 
     pub broadcast-written : inspected (octetsIn x) ≡ answer.given Trb → fieldsOf Trb (octetsIn x) .ads ≡ replicate addressWidth 0 → Granted first (Broadcast (fieldsOf Trb (octetsIn x) .adp)) (fieldsOf Trb (octetsIn x) .tab) (dataOf Trb (octetsIn x)) place
-        → Holds (dataOf Trb (octetsIn x)) (recordAt (run (afterSetup address key first .card) (past ++ (SessionEnd ∷ sent x)) .records) place)
+        → Holds (dataOf Trb (octetsIn x)) (recordAt (run (afterSetup address key first .card) (past ++ (SessionEnd ∷ callsSending x)) .records) place)
     unfolding ended
-    broadcast-written good everyone g = held _ _ _ place (g .named) (after-end (sent x) _ _ (broadcast-noted s x all ended refl place good everyone (finds _ _ _ place g)))
+    broadcast-written good everyone g = held _ _ _ place (g .named) (after-end (callsSending x) _ _ (broadcast-noted s x all ended refl place good everyone (finds _ _ _ place g)))
 
   pub exchange-written : (x : List Handed) → AllUsable x → (y : List Handed) → AllUsable y → Authentic s x y → (place : ℕ)
       → Granted first (Programmed (fieldsOf Rec (octetsIn x) .adp)) (fieldsOf Rec (octetsIn x) .tab) (dataOf Rec (octetsIn x)) place
-      → Holds (dataOf Rec (octetsIn x)) (recordAt (run (afterSetup address key first .card) (past ++ (SessionEnd ∷ (sent x ++ sent y))) .records) place)
+      → Holds (dataOf Rec (octetsIn x)) (recordAt (run (afterSetup address key first .card) (past ++ (SessionEnd ∷ (callsSending x ++ callsSending y))) .records) place)
   unfolding ended
-  exchange-written x all y also a place g = held _ _ _ place (g .named) (after-end (sent x ++ sent y) _ _ (exchange-noted s x all y also a ended refl place (finds _ _ _ place g)))
+  exchange-written x all y also a place g = held _ _ _ place (g .named) (after-end (callsSending x ++ callsSending y) _ _ (exchange-noted s x all y also a ended refl place (finds _ _ _ place g)))
 
 -- 00: no history leaves a label cut inside a character, or over one of its limits
 module _ (address key : List ℕ) (first : Records) (arrays : Arrays first) (accepted : afterSetup address key first .number ≡ none) (h : List Call) (place : ℕ) (p : place < first .count) where

@@ -49,8 +49,8 @@ pub record Granted (first : Records) (cause : Cause) (t : ℕ) (d : List ℕ) (p
   pub acceptable : Acceptable (recordAt first place .attributes) d
 
 -- the calls that hand a sending over, each octet with what is lent with it
-abbrev pub sent : List Handed → List Call
-sent x = map (λ h. Octet (h .octet) (h .loan)) x
+abbrev pub callsSending : List Handed → List Call
+callsSending x = map (λ h. Octet (h .octet) (h .loan)) x
 
 -- x is a programming frame and y an authentication, both to this card and from the same primary; y "carries the DES cipher, under the card's key, of
 -- the number lent at the programming frame", which is that lent with its last octet

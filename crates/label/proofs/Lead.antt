@@ -7,7 +7,7 @@ use native.Mathlib.Omega.{arith}
 use borrow.Author.Tests.{leb-true, lt-leb}
 use lib.Dec.{leb}
 use lib.ListN.{length}
-use Rattle.label.specs.Utf8.{Range, within, table, begins, rowAt, sequenceLength}
+use Rattle.label.specs.Utf8.{Range, inRange, table, begins, rowAt, sequenceLength}
 use Rattle.label.specs.Lead.{rowAmong, rowOf}
 use Rattle.label.proofs.Table.{and-true}
 
@@ -44,12 +44,12 @@ row-of-lead-among : (from : ℕ) (rows : List (List Range)) (lead : ℕ) (text :
 unfolding begins rowAt rowAmong ascends
 row-of-lead-among from [] lead text e = refl
 row-of-lead-among from ([] ∷ rows) lead text e = refl
-row-of-lead-among from ((range ∷ row) ∷ rows) lead text e = told (within range lead) refl (row-of-lead-among (suc (range .greatest)) rows lead text (a .rest))
+row-of-lead-among from ((range ∷ row) ∷ rows) lead text e = told (inRange range lead) refl (row-of-lead-among (suc (range .greatest)) rows lead text (a .rest))
   where
     a : Ascends from range rows
     a = ascending from range row rows e
 
-    told : (held : Bool) → within range lead ≡ held → rowAt rows (lead ∷ text) ≡ cond (begins (rowAmong rows lead) (lead ∷ text)) (rowAmong rows lead) []
+    told : (held : Bool) → inRange range lead ≡ held → rowAt rows (lead ∷ text) ≡ cond (begins (rowAmong rows lead) (lead ∷ text)) (rowAmong rows lead) []
         → cond (held && begins row text) (range ∷ row) (rowAt rows (lead ∷ text)) ≡ cond (begins (cond (held && true) (range ∷ row) (rowAmong rows lead)) (lead ∷ text)) (cond (held && true) (range ∷ row) (rowAmong rows lead)) []
     told true held others =
         let high : lead ≤ range .greatest = leb-true _ _ (and-true (leb (range .least) lead) (leb lead (range .greatest)) held .1) in

@@ -8,7 +8,7 @@ use native.Mathlib.Omega.{arith}
 use borrow.Author.Tests.{le-leb, lt-leb}
 use lib.ListN.{length, getD, take, drop, length-drop, drop-of-length-le}
 use lib.Seq.{drop-cons}
-use Rattle.label.specs.Utf8.{Range, tail, within, begins, sequenceLength}
+use Rattle.label.specs.Utf8.{Range, tail, inRange, begins, sequenceLength}
 use Rattle.label.specs.Lead.{rowAmong, rowOf}
 use Rattle.label.proofs.Table.{and-true}
 use Rattle.label.proofs.Lead.{sequence-of-lead, sequence-of-none}
@@ -18,9 +18,9 @@ lead-begins-among : (rows : List (List Range)) (lead : ℕ) (text : List ℕ) �
 unfolding begins rowAmong
 lead-begins-among [] lead text = refl
 lead-begins-among ([] ∷ rows) lead text = refl
-lead-begins-among ((range ∷ row) ∷ rows) lead text = found (within range lead) refl (lead-begins-among rows lead text)
+lead-begins-among ((range ∷ row) ∷ rows) lead text = found (inRange range lead) refl (lead-begins-among rows lead text)
   where
-    found : (held : Bool) → within range lead ≡ held → begins (rowAmong rows lead) (lead ∷ text) ≡ begins (drop 1 (rowAmong rows lead)) text
+    found : (held : Bool) → inRange range lead ≡ held → begins (rowAmong rows lead) (lead ∷ text) ≡ begins (drop 1 (rowAmong rows lead)) text
         → begins (cond (held && true) (range ∷ row) (rowAmong rows lead)) (lead ∷ text) ≡ begins (drop 1 (cond (held && true) (range ∷ row) (rowAmong rows lead))) text
     found true e others = rw e
     found false e others = others
@@ -35,7 +35,7 @@ unfolding begins
 begins-fits [] text e = omega arith
 begins-fits (range ∷ row) [] e = absurd (false≢true e)
 begins-fits (range ∷ row) (octet ∷ text) e =
-    let rest : length row ≤ length text = begins-fits row text (and-true (within range octet) _ e .1) in
+    let rest : length row ≤ length text = begins-fits row text (and-true (inRange range octet) _ e .1) in
     omega arith
 
 begins-short : (row : List Range) (text : List ℕ) → length text < length row → begins row text ≡ false
@@ -60,7 +60,7 @@ begins-front [] n text e = refl
 begins-front (range ∷ row) zero text e = absurd (false≢true e)
 begins-front (range ∷ row) (suc n) [] e = e
 begins-front (range ∷ row) (suc n) (octet ∷ text) e =
-    let both : (within range octet ≡ true) × (begins row (take n text) ≡ true) = and-true (within range octet) _ e in
+    let both : (inRange range octet ≡ true) × (begins row (take n text) ≡ true) = and-true (inRange range octet) _ e in
     rw (both .0, begins-front row n text (both .1))
 
 -- read octet by octet, as the code reads it: the first octet gives the row, and each further octet is judged by its range
@@ -74,7 +74,7 @@ sequence-cut text at h cut =
     rw (drop-cons text at 0 h, sequence-of-lead) (rw (rw (drop-cons text at 0 h) at short))
 
 module _ (row : List Range) (text : List ℕ) (i j : ℕ) (in-row : i < length row) (in-text : j < length text) where
-  begins-next : begins (drop i row) (drop j text) ≡ within (getD row i tail) (getD text j 0) && begins (drop (i + 1) row) (drop (j + 1) text)
+  begins-next : begins (drop i row) (drop j text) ≡ inRange (getD row i tail) (getD text j 0) && begins (drop (i + 1) row) (drop (j + 1) text)
   unfolding begins
   begins-next = rw (drop-cons row i tail in-row, drop-cons text j 0 in-text, add-one i, add-one j)
 

@@ -14,8 +14,8 @@ pub record Range : Type 0 where
 abbrev pub _to_ : ℕ → ℕ → Range
 low to high = record { least = low; greatest = high }
 
-abbrev pub within : Range → ℕ → Bool
-within range octet = leb (range .least) octet && leb octet (range .greatest)
+abbrev pub inRange : Range → ℕ → Bool
+inRange range octet = leb (range .least) octet && leb octet (range .greatest)
 
 -- RFC 3629 section 4, UTF8-tail
 abbrev pub tail : Range
@@ -39,7 +39,7 @@ table =
 unfoldable pub begins : List Range → List ℕ → Bool
 begins [] text = true
 begins (range ∷ ranges) [] = false
-begins (range ∷ ranges) (octet ∷ text) = within range octet && begins ranges text
+begins (range ∷ ranges) (octet ∷ text) = inRange range octet && begins ranges text
 
 -- the row of the table that the text begins with: an empty one where it begins with none
 unfoldable pub rowAt : List (List Range) → List ℕ → List Range

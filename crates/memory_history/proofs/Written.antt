@@ -17,7 +17,7 @@ use Rattle.card.specs.Feeding.{Handed, octetsIn, AllUsable}
 use Rattle.history.specs.Book.{Metered, Programmed, Transferred, Broadcast, setupOf, bookOf}
 use Rattle.history.specs.Claim as by-value
 use Rattle.history.specs.Claim.{Holds}
-use Rattle.history.specs.Granted.{Named, Granted, sent, Authentic}
+use Rattle.history.specs.Granted.{Named, Granted, callsSending, Authentic}
 use Rattle.history.proofs.History.{history-kept}
 use Rattle.history.proofs.Written as written
 use Rattle.card_memory.specs.Layout.{size}
@@ -71,7 +71,7 @@ module _ (before address key : List ℕ) (count : ℕ) (entries : List ℕ) (acc
       in-memory _ e t d place (g .named)
       (written.meter-written address key given (entry-arrays before address key count entries accepted) (passed .accepted) (made past) t d place g)
 
-  module _ (s : List Handed) (all : AllUsable s) (place : ℕ) (e : made x ≡ SessionEnd ∷ sent s) where
+  module _ (s : List Handed) (all : AllUsable s) (place : ℕ) (e : made x ≡ SessionEnd ∷ callsSending s) where
     pub transfer-written : inspected (octetsIn s) ≡ answer.given Trf → fieldsOf Trf (octetsIn s) .ads ≡ address
         → Granted given (Transferred (fieldsOf Trf (octetsIn s) .adp)) (fieldsOf Trf (octetsIn s) .tab) (dataOf Trf (octetsIn s)) place → Holds (dataOf Trf (octetsIn s)) (recordAt left place)
     transfer-written good own g =
@@ -86,7 +86,7 @@ module _ (before address key : List ℕ) (count : ℕ) (entries : List ℕ) (acc
         in-memory _ e _ _ place (g .named)
         (written.broadcast-written address key given (entry-arrays before address key count entries accepted) (passed .accepted) (made past) s all place good everyone g)
 
-  pub exchange-written : (r : List Handed) → AllUsable r → (s : List Handed) → AllUsable s → (place : ℕ) → made x ≡ SessionEnd ∷ (sent r ++ sent s) → Authentic (setupOf address key given) r s
+  pub exchange-written : (r : List Handed) → AllUsable r → (s : List Handed) → AllUsable s → (place : ℕ) → made x ≡ SessionEnd ∷ (callsSending r ++ callsSending s) → Authentic (setupOf address key given) r s
       → Granted given (Programmed (fieldsOf Rec (octetsIn r) .adp)) (fieldsOf Rec (octetsIn r) .tab) (dataOf Rec (octetsIn r)) place → Holds (dataOf Rec (octetsIn r)) (recordAt left place)
   exchange-written r all s also place e a g =
       let passed = setup-passed before address key count entries (accepted .number) in

@@ -8,7 +8,7 @@ use lib.ListN.{length, getD, take, drop}
 use lib.Seq.{take-length, drop-at, length-take-le, drop-length, take-at, getD-drop}
 use lib.Dec.{ltb}
 use borrow.Author.Tests.{lt-ltb, le-leb}
-use Rattle.number.specs.Groups.{encoded, Front, found, none, frontOf, placed, readAt, octetsAt}
+use Rattle.number.specs.Groups.{encoded, Front, found, none, frontNumber, placed, readAt, withNumberAt}
 use Rattle.numbers.specs.Table.{faultyFile}
 use Rattle.numbers.specs.Counts.{inOctets}
 use Rattle.numbers.specs.declared.Octets.{Octets}
@@ -16,11 +16,11 @@ use Rattle.numbers.specs.Answer.{Answer, given, refusedAt}
 use Rattle.number.proofs.Fronts.{front-encoded, encoded-front, Formed}
 
 -- the form of n with anything behind it
-pub front-form : (n : ℕ) (s : List ℕ) → n < 2 ^ 32 → frontOf (encoded n ++ s) ≡ found n (length (encoded n))
+pub front-form : (n : ℕ) (s : List ℕ) → n < 2 ^ 32 → frontNumber (encoded n ++ s) ≡ found n (length (encoded n))
 front-form n s h = front-encoded n s ∙ rw (lt-ltb n (2 ^ 32) h)
 
 -- what is read of the form of m is m
-pub own-form : (m : ℕ) (s : List ℕ) (n w : ℕ) → frontOf (encoded m ++ s) ≡ found n w → (m ≡ n) × (length (encoded m) ≡ w)
+pub own-form : (m : ℕ) (s : List ℕ) (n w : ℕ) → frontNumber (encoded m ++ s) ≡ found n w → (m ≡ n) × (length (encoded m) ≡ w)
 own-form m s n w e = go (ltb m (2 ^ 32)) refl
   where
     go : (b : Bool) → ltb m (2 ^ 32) ≡ b → (m ≡ n) × (length (encoded m) ≡ w)
@@ -36,8 +36,8 @@ own-form m s n w e = go (ltb m (2 ^ 32)) refl
         absurd y
 
 -- a number that was written is read where it was written
-pub read-written : (s : List ℕ) (at n : ℕ) → n < 2 ^ 32 → at + length (encoded n) ≤ length s → readAt (octetsAt s (inOctets at) n) (inOctets at) ≡ given (n, inOctets (at + length (encoded n)))
-unfolding readAt octetsAt placed
+pub read-written : (s : List ℕ) (at n : ℕ) → n < 2 ^ 32 → at + length (encoded n) ≤ length s → readAt (withNumberAt s (inOctets at) n) (inOctets at) ≡ given (n, inOctets (at + length (encoded n)))
+unfolding readAt withNumberAt placed
 read-written s at n h r =
     let p : length (take at s) ≡ at = length-take-le at s (omega arith) in
     rw (le-leb _ _ r, take-length (encoded n), append-assoc (take at s) (encoded n), drop-at (take at s) _ at p, front-form n _ h)
@@ -51,9 +51,9 @@ same-given m n a b e =
 -- what is read as n stands in n's own octets
 pub written-read : (s : List ℕ) (at n w : ℕ) → ((i : ℕ) → getD s i 0 < 256) → readAt s (inOctets at) ≡ given (n, inOctets (at + w)) → take w (drop at s) ≡ encoded n
 unfolding readAt placed
-written-read s at n w b e = go (frontOf (drop at s)) refl e
+written-read s at n w b e = go (frontNumber (drop at s)) refl e
   where
-    go : (f : Front) → frontOf (drop at s) ≡ f → placed (inOctets at) f ≡ given (n, inOctets (at + w)) → take w (drop at s) ≡ encoded n
+    go : (f : Front) → frontNumber (drop at s) ≡ f → placed (inOctets at) f ≡ given (n, inOctets (at + w)) → take w (drop at s) ≡ encoded n
     go none q r = let z : _≡_ {A = ℕ} 0 1 = cc in let y : ⊥ = omega arith in absurd y
     go (found m v) q r =
         let g = same-given m n _ _ r in
@@ -64,26 +64,26 @@ written-read s at n w b e = go (frontOf (drop at s)) refl e
         rw (← p, ← k′, f .octets) (take-at (encoded m) _ v (sym (f .width)))
 
 -- two octet lists that are read whole as the same number are equal
-pub one-form : (s t : List ℕ) (n : ℕ) → ((i : ℕ) → getD s i 0 < 256) → ((i : ℕ) → getD t i 0 < 256) → frontOf s ≡ found n (length s) → frontOf t ≡ found n (length t) → s ≡ t
+pub one-form : (s t : List ℕ) (n : ℕ) → ((i : ℕ) → getD s i 0 < 256) → ((i : ℕ) → getD t i 0 < 256) → frontNumber s ≡ found n (length s) → frontNumber t ≡ found n (length t) → s ≡ t
 one-form s t n bs bt p q = whole s bs p ∙ sym (whole t bt q)
   where
-    whole : (r : List ℕ) → ((i : ℕ) → getD r i 0 < 256) → frontOf r ≡ found n (length r) → r ≡ encoded n
+    whole : (r : List ℕ) → ((i : ℕ) → getD r i 0 < 256) → frontNumber r ≡ found n (length r) → r ≡ encoded n
     whole r b e = encoded-front r n (length r) b e .octets ∙ rw (drop-length r, append-nil)
 
 -- the reader's answer, as the number at the front of what stands from the offset on
-pub read-front : (s : List ℕ) (at n next : ℕ) → readAt s (inOctets at) ≡ given (n, inOctets next) → (w : ℕ) × (frontOf (drop at s) ≡ found n w) × (next ≡ at + w)
+pub read-front : (s : List ℕ) (at n next : ℕ) → readAt s (inOctets at) ≡ given (n, inOctets next) → (w : ℕ) × (frontNumber (drop at s) ≡ found n w) × (next ≡ at + w)
 unfolding readAt placed
-read-front s at n next e = go (frontOf (drop at s)) refl e
+read-front s at n next e = go (frontNumber (drop at s)) refl e
   where
-    go : (f : Front) → frontOf (drop at s) ≡ f → placed (inOctets at) f ≡ given (n, inOctets next) → (w : ℕ) × (frontOf (drop at s) ≡ found n w) × (next ≡ at + w)
+    go : (f : Front) → frontNumber (drop at s) ≡ f → placed (inOctets at) f ≡ given (n, inOctets next) → (w : ℕ) × (frontNumber (drop at s) ≡ found n w) × (next ≡ at + w)
     go none q r = let z : _≡_ {A = ℕ} 0 1 = cc in let y : ⊥ = omega arith in absurd y
     go (found m v) q r =
         let g = same-given m n _ _ r in
         (v, q ∙ rw (g .0), sym (g .1))
 
-pub read-faulty : (s : List ℕ) (at : ℕ) → readAt s (inOctets at) ≡ refusedAt faultyFile (inOctets at) → frontOf (drop at s) ≡ none
+pub read-faulty : (s : List ℕ) (at : ℕ) → readAt s (inOctets at) ≡ refusedAt faultyFile (inOctets at) → frontNumber (drop at s) ≡ none
 unfolding readAt placed
-read-faulty s at e = go (frontOf (drop at s)) e
+read-faulty s at e = go (frontNumber (drop at s)) e
   where
     go : (f : Front) → placed (inOctets at) f ≡ refusedAt faultyFile (inOctets at) → f ≡ none
     go none r = refl

@@ -8,7 +8,7 @@ use native.Mathlib.Omega.{arith}
 use lib.ListN.{length, getD, drop}
 use lib.Dec.{ltb, lit<}
 use borrow.Author.Tests.{lt-ltb, le-ltb, ltb-true, ltb-false, ne-eqb}
-use Rattle.number.specs.Groups.{groups, encoded, Front, found, none, joined, decoded, bounded, frontOf}
+use Rattle.number.specs.Groups.{groups, encoded, Front, found, none, joined, decoded, bounded, frontNumber}
 
 -- a high part above zero, joined to a low group
 pub joined-above : (g n w : ℕ) → 0 < n → joined g (found n w) ≡ found (g + 128 * n) (suc w)
@@ -124,8 +124,8 @@ decoded-within (suc k) (o ∷ s) n w e = go (ltb o 128) refl (decoded k s) refl 
     go false h none q r = absurd (not-found n w (simp (h, q) at e))
     go false h (found m v) q r = high m v (r m v q .1) (simp (h, q) at e)
 
-pub front-within : (s : List ℕ) (n w : ℕ) → frontOf s ≡ found n w → (0 < w) × (w ≤ length s)
-unfolding frontOf bounded
+pub front-within : (s : List ℕ) (n w : ℕ) → frontNumber s ≡ found n w → (0 < w) × (w ≤ length s)
+unfolding frontNumber bounded
 front-within s n w e = go (decoded 5 s) refl e
   where
     go : (f : Front) → decoded 5 s ≡ f → bounded f ≡ found n w → (0 < w) × (w ≤ length s)
@@ -140,8 +140,8 @@ front-within s n w e = go (decoded 5 s) refl e
         small false h = absurd (not-found n w (simp h at r))
 
 -- the form of a number, whatever stands behind it, is read as that number; of a larger one nothing is read
-pub front-encoded : (n : ℕ) (s : List ℕ) → frontOf (encoded n ++ s) ≡ cond (ltb n (2 ^ 32)) (found n (length (encoded n))) none
-unfolding frontOf encoded bounded
+pub front-encoded : (n : ℕ) (s : List ℕ) → frontNumber (encoded n ++ s) ≡ cond (ltb n (2 ^ 32)) (found n (length (encoded n))) none
+unfolding frontNumber encoded bounded
 front-encoded n s = rw (decoded-groups 4 n s) (go (ltb n (2 ^ 32)) refl)
   where
     go : (t : Bool) → ltb n (2 ^ 32) ≡ t → bounded (cond (ltb n (128 ^ 5)) (found n (length (groups 4 n))) none) ≡ cond (ltb n (2 ^ 32)) (found n (length (groups 4 n))) none
@@ -159,8 +159,8 @@ pub record Formed (n w : ℕ) (s : List ℕ) : Type 0 where
   pub small : n < 2 ^ 32
 
 -- what is read as n is below 2^32 and stands in the form of n
-pub encoded-front : (s : List ℕ) (n w : ℕ) → ((i : ℕ) → getD s i 0 < 256) → frontOf s ≡ found n w → Formed n w s
-unfolding frontOf encoded bounded
+pub encoded-front : (s : List ℕ) (n w : ℕ) → ((i : ℕ) → getD s i 0 < 256) → frontNumber s ≡ found n w → Formed n w s
+unfolding frontNumber encoded bounded
 encoded-front s n w b e = go (decoded 5 s) refl e
   where
     go : (f : Front) → decoded 5 s ≡ f → bounded f ≡ found n w → Formed n w s

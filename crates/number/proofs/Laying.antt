@@ -10,7 +10,7 @@ use lib.ListN.{length, getD, set, drop, length-drop}
 use lib.Seq.{paste, paste-zero, paste-suc, length-paste, drop-drop, getD-drop}
 use lib.Dec.{ltb, lit<, lit≤}
 use borrow.Author.Tests.{lt-ltb, le-ltb, le-leb, lt-leb}
-use Rattle.number.specs.Groups.{groups, encoded, writtenAt, octetsAt}
+use Rattle.number.specs.Groups.{groups, encoded, writtenAt, withNumberAt}
 use Rattle.numbers.specs.Table.{wrongLength}
 use Rattle.numbers.specs.Counts.{inOctets}
 use Rattle.numbers.specs.Answer.{given, refused}
@@ -103,8 +103,8 @@ module _ (s : List ℕ) (at n : ℕ) (octets : List ℕ) (rest next j k : ℕ) (
       let g : groups k rest ≡ rest ∷ [] = one-group k rest h in
       omega (arith, within l rest [] g, length-drop (j + 1) (encoded n), ap length (tail-at (encoded n) j rest [] (l .left ∙ g)))
 
-  pub written-octets : set octets next rest ≡ octetsAt s (inOctets at) n
-  unfolding octetsAt
+  pub written-octets : set octets next rest ≡ withNumberAt s (inOctets at) n
+  unfolding withNumberAt
   written-octets =
       rw (le-leb _ _ (l .room), ← laid-all) (stored l rest [] (one-group k rest h))
 
@@ -120,8 +120,8 @@ module _ (s : List ℕ) (at n : ℕ) (h : length s < at + length (encoded n)) wh
   unfolding writtenAt
   short-answer = rw (lt-leb _ _ h)
 
-  pub short-octets : s ≡ octetsAt s (inOctets at) n
-  unfolding octetsAt
+  pub short-octets : s ≡ withNumberAt s (inOctets at) n
+  unfolding withNumberAt
   short-octets = rw (lt-leb _ _ h)
 
 groups-short : (k n : ℕ) → length (groups k n) ≤ suc k

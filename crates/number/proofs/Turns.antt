@@ -10,7 +10,7 @@ use lib.ListN.{length, getD, drop, drop-of-length-le}
 use lib.Seq.{drop-cons}
 use lib.Dec.{eqb, lit<}
 use borrow.Author.Tests.{lt-ltb, le-ltb, ne-eqb}
-use Rattle.number.specs.Groups.{Front, found, none, joined, decoded, bounded, frontOf, placed, readAt}
+use Rattle.number.specs.Groups.{Front, found, none, joined, decoded, bounded, frontNumber, placed, readAt}
 use Rattle.numbers.specs.Table.{faultyFile}
 use Rattle.numbers.specs.Counts.{inOctets}
 use Rattle.numbers.specs.Answer.{given, refusedAt}
@@ -127,13 +127,13 @@ too-many s at value scale next k g = g .reads ∙ after-none k scale value
 -- what the reader answers, by what it decoded
 module _ (s : List ℕ) (at : ℕ) where
   pub reads-none : decoded 5 (drop at s) ≡ none → readAt s (inOctets at) ≡ refusedAt faultyFile (inOctets at)
-  unfolding readAt frontOf bounded placed
+  unfolding readAt frontNumber bounded placed
   reads-none e = rw e
 
   pub reads-large : (n w : ℕ) → decoded 5 (drop at s) ≡ found n w → 2 ^ 32 ≤ n → readAt s (inOctets at) ≡ refusedAt faultyFile (inOctets at)
-  unfolding readAt frontOf bounded placed
+  unfolding readAt frontNumber bounded placed
   reads-large n w e h = rw (e, le-ltb n (2 ^ 32) h)
 
   pub reads-number : (n w : ℕ) → decoded 5 (drop at s) ≡ found n w → n < 2 ^ 32 → readAt s (inOctets at) ≡ given (n, inOctets (at + w))
-  unfolding readAt frontOf bounded placed
+  unfolding readAt frontNumber bounded placed
   reads-number n w e h = rw (e, lt-ltb n (2 ^ 32) h)

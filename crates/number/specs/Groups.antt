@@ -41,8 +41,8 @@ bounded (found n w) = cond (ltb n (2 ^ 32)) (found n w) none
 bounded none = none
 
 -- the number at the front: five groups hold every number below 2^32
-unfoldable pub frontOf : List ℕ → Front
-frontOf s = bounded (decoded 5 s)
+unfoldable pub frontNumber : List ℕ → Front
+frontNumber s = bounded (decoded 5 s)
 
 -- a number found at an offset, with the offset after it; 18 at the offset where there is none
 unfoldable pub placed : Octets → Front → Answer (ℕ × Octets)
@@ -51,12 +51,12 @@ placed at none = refusedAt faultyFile at
 
 -- what stands at an offset
 unfoldable pub readAt : List ℕ → Octets → Answer (ℕ × Octets)
-readAt s at = placed at (frontOf (drop (at .0) s))
+readAt s at = placed at (frontNumber (drop (at .0) s))
 
 -- what writing n at an offset answers: the offset after it, or 17 where it does not fit
 unfoldable pub writtenAt : List ℕ → Octets → ℕ → Answer Octets
 writtenAt s at n = cond (leb (at .0 + length (encoded n)) (length s)) (given (inOctets (at .0 + length (encoded n)))) (refused wrongLength)
 
 -- the octets after that: those of n from the offset on, where it fits
-unfoldable pub octetsAt : List ℕ → Octets → ℕ → List ℕ
-octetsAt s at n = cond (leb (at .0 + length (encoded n)) (length s)) (paste s (at .0) (encoded n) (length (encoded n))) s
+unfoldable pub withNumberAt : List ℕ → Octets → ℕ → List ℕ
+withNumberAt s at n = cond (leb (at .0 + length (encoded n)) (length s)) (paste s (at .0) (encoded n) (length (encoded n))) s

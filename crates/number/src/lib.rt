@@ -2,7 +2,7 @@
 ghost use mathlib.Core.Path.{_≡_};
 ghost use lib.ListN.{length};
 ghost use Rattle.number.specs.Answers.{answerOfReading, answerOfWritten};
-ghost use Rattle.number.specs.Groups.{encoded, readAt, writtenAt, octetsAt};
+ghost use Rattle.number.specs.Groups.{encoded, readAt, writtenAt, withNumberAt};
 use numbers::Octets;
 use octets::wide;
 
@@ -76,7 +76,7 @@ pub fn width(n: u32) -> Octets
 
 // Writes a number's octets from an offset on; where they do not fit, nothing is written.
 pub fn write(octets: &mut [u8], at: Octets, n: u32) -> Written
-    ensures { λ r. ⌜ (answerOfWritten r ≡ writtenAt (now (octets .entry)) at n) × (now (octets .exit) ≡ octetsAt (now (octets .entry)) at n) ⌝ }
+    ensures { λ r. ⌜ (answerOfWritten r ≡ writtenAt (now (octets .entry)) at n) × (now (octets .exit) ≡ withNumberAt (now (octets .entry)) at n) ⌝ }
 {
     let start = at.0;
     let taken = width(n);

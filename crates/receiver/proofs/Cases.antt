@@ -5,7 +5,7 @@ use lib.ListN.{take}
 use borrow.Author.Tests.{eq-eqb, ne-eqb}
 use Rattle.receiver.specs.declared.Receiver.{Receiver}
 use Rattle.receiver.specs.Receiving.{Reception, Awaiting, Skipping, Partial, Step}
-use Rattle.receiver.specs.Receiver.{sound, receptionOf, holding, stepped, broken, answered}
+use Rattle.receiver.specs.Receiver.{sound, receptionOf, holding, stepped, broken, answeredBy}
 
 pub reception-skipping : (r : Receiver) → r .skipping ≡ true → receptionOf r ≡ Skipping
 unfolding receptionOf
@@ -23,8 +23,8 @@ pub still-skipping : (r : Receiver) → r .skipping ≡ true → holding Skippin
 unfolding holding
 still-skipping r e = λ i. record { skipping = sym e i; count = r .count; octets = r .octets }
 
-pub sound-answered : (f : Reception → Step) (r : Receiver) (h : Reception) → sound r ≡ true → receptionOf r ≡ h → answered f r ≡ stepped r (f h)
+pub sound-answered : (f : Reception → Step) (r : Receiver) (h : Reception) → sound r ≡ true → receptionOf r ≡ h → answeredBy f r ≡ stepped r (f h)
 sound-answered f r h s e = rw (s, e)
 
-pub unsound-answered : (f : Reception → Step) (r : Receiver) → sound r ≡ false → answered f r ≡ broken r
+pub unsound-answered : (f : Reception → Step) (r : Receiver) → sound r ≡ false → answeredBy f r ≡ broken r
 unsound-answered f r s = rw s

@@ -13,7 +13,7 @@ use mathlib.Core.Option.{Option, none, some}
 use Rattle.numbers.specs.Answer.{Answer, given}
 use Rattle.frame.specs.Checks.{inspected}
 use Rattle.receiver.specs.declared.Receiver.{Receiver}
-use Rattle.receiver.specs.Receiving.{Reception, Awaiting, Skipping, Partial, Outcome, Silent, Complete, Course, after, onOctets}
+use Rattle.receiver.specs.Receiving.{Reception, Awaiting, Skipping, Partial, Outcome, Silent, Complete, Course, leadingWith, onOctets}
 use Rattle.receiver.specs.Receiver.{mostHeld, Sound, receptionOf, holding, Response, answerTo, frameOf, noFrame, afterOctet, afterOctets, leftBy}
 use Rattle.receiver.proofs.Soundness.{empty-sound}
 use Rattle.receiver.proofs.Follows.{octet-follows}
@@ -80,7 +80,7 @@ good-frame-delivered r f c e l j =
     }
 
 -- the first outcome of octets that end in one, and the others
-pub first-more : (u : Outcome) (x : Course) (n : ℕ) (y : Outcome) → after u x ≡ endingIn (suc n) y → (u ≡ Silent) × (x ≡ endingIn n y)
+pub first-more : (u : Outcome) (x : Course) (n : ℕ) (y : Outcome) → leadingWith u x ≡ endingIn (suc n) y → (u ≡ Silent) × (x ≡ endingIn n y)
 first-more u x n y e =
     let all : u ∷ x .outcomes ≡ Silent ∷ (replicate n Silent ++ (y ∷ [])) = ap (λ (z : Course). z .outcomes) e in
     let rest : x .outcomes ≡ replicate n Silent ++ (y ∷ []) = cc in

@@ -15,7 +15,7 @@ use Rattle.frame.specs.Checks.{statedBy, judged}
 use Rattle.frame.proofs.BadFrame.{OfBadFrame, OnFrame, stated-on-frame, judged-on-frame}
 use Rattle.receiver.specs.declared.Receiver.{Receiver}
 use Rattle.receiver.specs.Receiving.{Reception, Awaiting, Skipping, Partial, Outcome, Silent, Dropped, Complete, Step, to, begun, grown, judgedOutcome, verdictOn, onOctet, onGap, onSessionEnd}
-use Rattle.receiver.specs.Receiver.{mostHeld, Sound, sound, receptionOf, answerTo, Response, stepped, broken, answered, afterOctet, afterGap, afterSessionEnd}
+use Rattle.receiver.specs.Receiver.{mostHeld, Sound, sound, receptionOf, answerTo, Response, stepped, broken, answeredBy, afterOctet, afterGap, afterSessionEnd}
 use Rattle.octets.proofs.Impossible.{impossible}
 use Rattle.receiver.proofs.Fronts.{length-snoc}
 use Rattle.receiver.proofs.Growth.{first-snoc}
@@ -66,11 +66,11 @@ stepped-follows f k n r s l =
       reception = holding-reception h r t;
     }
 
-answered-follows : (f : Reception → Step) → Keeps f → Numbers f → (r : Receiver) → Sound r → length (r .octets) ≡ mostHeld → Follows f r (answered f r)
+answered-follows : (f : Reception → Step) → Keeps f → Numbers f → (r : Receiver) → Sound r → length (r .octets) ≡ mostHeld → Follows f r (answeredBy f r)
 answered-follows f k n r s l = rw (sound-test r s) (stepped-follows f k n r s l)
 
 -- a receiver that is not sound is refused by every call and handed back as it was
-pub unsound-refused : (f : Reception → Step) (r : Receiver) → (Sound r → ⊥) → answered f r ≡ broken r
+pub unsound-refused : (f : Reception → Step) (r : Receiver) → (Sound r → ⊥) → answeredBy f r ≡ broken r
 unsound-refused f r n = go (sound r) refl
   where
     go : (b : Bool) → sound r ≡ b → cond b (stepped r (f (receptionOf r))) (broken r) ≡ broken r

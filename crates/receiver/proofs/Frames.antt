@@ -11,7 +11,7 @@ use Rattle.numbers.specs.Table.{lengthOutOfRange}
 use Rattle.numbers.specs.Answer.{given, refused, whenGiven}
 use Rattle.frame.specs.Checks.{statedBy, judged, inspected, inspectedAs}
 use Rattle.frame.proofs.GoodFrame.{inspected-good}
-use Rattle.receiver.specs.Receiving.{Reception, Awaiting, Skipping, Partial, Outcome, Silent, Dropped, Complete, Course, after, to, begun, judgedOutcome, verdictOn, onOctet, onOctets, WholeFrame}
+use Rattle.receiver.specs.Receiving.{Reception, Awaiting, Skipping, Partial, Outcome, Silent, Dropped, Complete, Course, leadingWith, to, begun, judgedOutcome, verdictOn, onOctet, onOctets, WholeFrame}
 use Rattle.receiver.proofs.Fronts.{length-snoc}
 use Rattle.receiver.proofs.Growth.{grown-more, grown-whole, first-snoc}
 use Rattle.receiver.proofs.Stated.{stated-whole}
@@ -20,7 +20,7 @@ use Rattle.receiver.proofs.Stated.{stated-whole}
 abbrev pub endingIn : ℕ → Outcome → Course
 endingIn n o = record { outcomes = replicate n Silent ++ (o ∷ []); last = Awaiting }
 
-step : (o : ℕ) (s : List ℕ) (h k : Reception) (u : Outcome) → onOctet o h ≡ to k u → onOctets (o ∷ s) h ≡ after u (onOctets s k)
+step : (o : ℕ) (s : List ℕ) (h k : Reception) (u : Outcome) → onOctet o h ≡ to k u → onOctets (o ∷ s) h ≡ leadingWith u (onOctets s k)
 unfolding onOctets
 step o s h k u e = rw e
 
@@ -28,7 +28,7 @@ step o s h k u e = rw e
 pub octets-append : (s t : List ℕ) (h : Reception) → onOctets (s ++ t) h ≡ record { outcomes = onOctets s h .outcomes ++ onOctets t (onOctets s h .last) .outcomes; last = onOctets t (onOctets s h .last) .last }
 unfolding onOctets
 octets-append [] t h = refl
-octets-append (o ∷ s) t h = ap (after (onOctet o h .outcome)) (octets-append s t (onOctet o h .next))
+octets-append (o ∷ s) t h = ap (leadingWith (onOctet o h .outcome)) (octets-append s t (onOctet o h .next))
 
 rest-of-frame : (t : List ℕ) (s : List ℕ) (o : ℕ) → 0 < length s → getD s 0 0 ≡ length s + suc (length t) → onOctets (o ∷ t) (Partial s) ≡ endingIn (length t) (verdictOn (s ++ o ∷ t))
 unfolding onOctets onOctet
@@ -40,7 +40,7 @@ rest-of-frame (q ∷ t) s o p e =
     let l = length-snoc s o in
     let next = step o (q ∷ t) (Partial s) (Partial (s ++ (o ∷ []))) Silent (grown-more (s ++ (o ∷ [])) (omega arith)) in
     let rest = rest-of-frame t (s ++ (o ∷ [])) q (omega arith) (omega arith) in
-    next ∙ ap (after Silent) (rw (append-snoc s o (q ∷ t)) at rest)
+    next ∙ ap (leadingWith Silent) (rw (append-snoc s o (q ∷ t)) at rest)
 
 -- a complete frame, good or bad, gives its one outcome at its last octet, and the next octet is an N
 pub whole-frame : (f : List ℕ) → WholeFrame f → onOctets f Awaiting ≡ endingIn (length f - 1) (verdictOn f)
@@ -52,7 +52,7 @@ whole-frame (n ∷ o ∷ t) w =
     let k : suc (suc (length t)) - 1 ≡ suc (length t) = omega arith in
     let in-range = stated-whole n (omega (arith, w .least)) (omega (arith, w .most)) in
     let first = step n (o ∷ t) Awaiting (Partial (n ∷ [])) Silent (rw in-range) in
-    rw k (first ∙ ap (after Silent) (rest-of-frame t (n ∷ []) o (omega arith) (omega arith)))
+    rw k (first ∙ ap (leadingWith Silent) (rest-of-frame t (n ∷ []) o (omega arith) (omega arith)))
 
 -- a slice is a good frame where its whole length has come and its checks pass
 pub whole-inspected : (f : List ℕ) → WholeFrame f → inspected f ≡ judged f

@@ -103,17 +103,17 @@ abbrev pub broken : Receiver → Response
 broken r = record { receiver = r; answer = refused brokenRule; frame = noFrame }
 
 -- What an event gives and leaves: 12 first, with the receiver handed back as it was; else as 01, Receiving, says.
-abbrev pub answered : (Reception → Step) → Receiver → Response
-answered f r = cond (sound r) (stepped r (f (receptionOf r))) (broken r)
+abbrev pub answeredBy : (Reception → Step) → Receiver → Response
+answeredBy f r = cond (sound r) (stepped r (f (receptionOf r))) (broken r)
 
 unfoldable pub afterOctet : Receiver → ℕ → Response
-afterOctet r o = answered (onOctet o) r
+afterOctet r o = answeredBy (onOctet o) r
 
 unfoldable pub afterGap : Receiver → Response
-afterGap r = answered onGap r
+afterGap r = answeredBy onGap r
 
 unfoldable pub afterSessionEnd : Receiver → Response
-afterSessionEnd r = answered onSessionEnd r
+afterSessionEnd r = answeredBy onSessionEnd r
 
 -- The answers to octets given one after the other, each to the receiver that the last call gave back, and the receiver that is left.
 unfoldable pub afterOctets : Receiver → List ℕ → List Response

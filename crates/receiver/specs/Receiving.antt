@@ -70,12 +70,12 @@ pub record Course : Type 0 where
   pub outcomes : List Outcome
   pub last : Reception
 
-abbrev pub after : Outcome → Course → Course
-after o c = record { outcomes = o ∷ c .outcomes; last = c .last }
+abbrev pub leadingWith : Outcome → Course → Course
+leadingWith o c = record { outcomes = o ∷ c .outcomes; last = c .last }
 
 unfoldable pub onOctets : List ℕ → Reception → Course
 onOctets [] h = record { outcomes = []; last = h }
-onOctets (o ∷ s) h = after (onOctet o h .outcome) (onOctets s (onOctet o h .next))
+onOctets (o ∷ s) h = leadingWith (onOctet o h .outcome) (onOctets s (onOctet o h .next))
 
 -- The octets of a frame whose whole length has come: as many as N states, and an N that answer 1 does not refuse.
 pub record WholeFrame (f : List ℕ) : Type 0 where

@@ -14,7 +14,7 @@ use Rattle.records.specs.declared.Attributes.{Attributes}
 use Rattle.records.specs.declared.Record.{Record}
 use Rattle.records.specs.Judging.{contentsAnswer}
 use Rattle.records.specs.Finding.{blankAttributes, blank}
-use Rattle.records.specs.Setup.{keepsLimits, allKeepLimits, present, tabsApart, first, contentsNumber}
+use Rattle.records.specs.Setup.{keepsLimits, allKeepLimits, present, tabsApart, firstNumber, contentsNumber}
 
 -- a statement about a list that goes by head and tail is one about each element
 module _ {A : Type 0} (past : A) (P : A → Type 0) (All : List A → Type 0) (nil : All []) (cons : (x : A) (l : List A) → (P x × All l) ↔ All (x ∷ l)) where
@@ -40,8 +40,8 @@ unfolding allKeepLimits
 limits-every = each-every blankAttributes (λ a. keepsLimits a ≡ true) (λ l. allKeepLimits l ≡ true) refl limits-cons
 
 -- the contents of every record are accepted
-both : (n m : ℕ) → ((n ≡ none) × (m ≡ none)) ↔ (first n m ≡ none)
-unfolding first
+both : (n m : ℕ) → ((n ≡ none) × (m ≡ none)) ↔ (firstNumber n m ≡ none)
+unfolding firstNumber
 both zero m = (λ h. h .1, λ h. (refl, h))
 both (suc n) m = (λ h. h .0, λ h. let z : ⊥ = omega arith in absurd z)
 

@@ -14,15 +14,15 @@ use Rattle.records.specs.declared.Attributes.{Attributes}
 use Rattle.records.specs.declared.Records.{Records}
 use Rattle.records.specs.Judging.{contentsAnswer}
 use Rattle.records.specs.Finding.{used, attributesOf, recordAt}
-use Rattle.records.specs.Setup.{keepsLimits, allKeepLimits, present, tabsApart, first, contentsNumber}
+use Rattle.records.specs.Setup.{keepsLimits, allKeepLimits, present, tabsApart, firstNumber, contentsNumber}
 use Rattle.records.proofs.InUse.{used-next, attributes-next, attributes-length}
 
 -- the marks of the TABs that a list of records has
 abbrev pub Marked : List Bool → List Attributes → Type 0
 Marked seen l = (t : ℕ) → t < 256 → getD seen t false ≡ present t l
 
-first-stands : (n next : ℕ) → none < n → first n next ≡ n
-unfolding first
+first-stands : (n next : ℕ) → none < n → firstNumber n next ≡ n
+unfolding firstNumber
 first-stands zero next p = let z : ⊥ = omega arith in absurd z
 first-stands (suc n) next p = refl
 
@@ -36,7 +36,7 @@ module _ (s : Records) (i : ℕ) (h : i < length (used s)) where
   limits-stop e = rw (attributes-next s i h, e)
 
   pub contents-pass : numberOf (contentsAnswer (recordAt s i)) ≡ none → contentsNumber (drop i (used s)) ≡ contentsNumber (drop (suc i) (used s))
-  unfolding contentsNumber first
+  unfolding contentsNumber firstNumber
   contents-pass e = rw (used-next s i h, e)
 
   pub contents-stop : (n : ℕ) → numberOf (contentsAnswer (recordAt s i)) ≡ n → none < n → contentsNumber (drop i (used s)) ≡ n

@@ -44,14 +44,14 @@ unfoldable pub keepsRules : Records → Bool
 keepsRules s = leb (s .count) mostRecords && tabsApart (attributesOf s) && allKeepLimits (attributesOf s)
 
 -- the first of two numbers, unless it is none
-unfoldable pub first : ℕ → ℕ → ℕ
-first zero next = next
-first (suc n) next = suc n
+unfoldable pub firstNumber : ℕ → ℕ → ℕ
+firstNumber zero next = next
+firstNumber (suc n) next = suc n
 
 -- "then each content in turn"
 unfoldable pub contentsNumber : List Record → ℕ
 contentsNumber [] = none
-contentsNumber (r ∷ l) = first (numberOf (contentsAnswer r)) (contentsNumber l)
+contentsNumber (r ∷ l) = firstNumber (numberOf (contentsAnswer r)) (contentsNumber l)
 
 -- whether the records break no setup rule, contents included
 unfoldable pub sound : Records → Bool

@@ -20,9 +20,9 @@ use Rattle.number.specs.Groups.{encoded}
 use Rattle.swap.specs.declared.item.Entry.{Entry}
 use Rattle.swap.specs.declared.item.Item.the-variants.{Good, Bad}
 use Rattle.swap.specs.declared.cursor.Cursor.{Cursor}
-use Rattle.swap.specs.declared.file.Records.{Records}
+use Rattle.swap.specs.declared.file.RecordCount.{RecordCount}
 use Rattle.swap.specs.Encoding.{recordsOctets}
-use Rattle.swap.specs.Reading.{Outcome, faulty, listed, readFile, answered, verdictOf, inRecords}
+use Rattle.swap.specs.Reading.{FileListing, faulty, listed, readFile, answerOfListing, verdictOf, inRecordCount}
 use Rattle.swap.specs.Cursor.{itemAt, cursorAfter, startOf, started, recordHere, fileEnd, nextAt, followed, adsOf, contentOf}
 use Rattle.swap.proofs.Judging.{item-cut}
 use Rattle.swap.proofs.Shown.{shown}
@@ -33,18 +33,18 @@ module _ (s : List ℕ) where
   unfolding startOf verdictOf
   start-faulty o e = go (readFile s) e
     where
-      go : (out : Outcome) → refusedAt faultyFile o ≡ answered out → refusedAt faultyFile o ≡ started out
+      go : (out : FileListing) → refusedAt faultyFile o ≡ answerOfListing out → refusedAt faultyFile o ≡ started out
       go (faulty p) q = let r : o ≡ inOctets p = cc in rw r
       go (listed rs) q = let z : _≡_ {A = ℕ} 0 1 = cc in let y : ⊥ = omega arith in absurd y
 
-  pub start-first : (c : Records) (w : ℕ) → given c ≡ verdictOf s → w ≡ length (encoded (c .0)) → given (record { at = inOctets w; left = c }) ≡ startOf s
+  pub start-first : (c : RecordCount) (w : ℕ) → given c ≡ verdictOf s → w ≡ length (encoded (c .0)) → given (record { at = inOctets w; left = c }) ≡ startOf s
   unfolding startOf verdictOf cursorAfter recordsOctets
   start-first c w e p = go (readFile s) e
     where
-      go : (out : Outcome) → given c ≡ answered out → given (record { at = inOctets w; left = c }) ≡ started out
+      go : (out : FileListing) → given c ≡ answerOfListing out → given (record { at = inOctets w; left = c }) ≡ started out
       go (faulty o) q = let z : _≡_ {A = ℕ} 0 1 = cc in let y : ⊥ = omega arith in absurd y
       go (listed rs) q =
-          let r : c ≡ inRecords (length rs) = cc in
+          let r : c ≡ inRecordCount (length rs) = cc in
           let a : length (encoded (length rs)) + 0 ≡ length (encoded (length rs)) = omega arith in
           let d : length rs - 0 ≡ length rs = omega arith in
           rw (p, r, a, d)
@@ -61,7 +61,7 @@ module _ (s : List ℕ) where
     pub next-past : length s < c .at .0 → refused faultyFile ≡ nextAt s c
     next-past h = next-none (c .at) (sym (item-cut 0 s (c .at .0) (drop (c .at .0) s) refl (omega (arith, length-drop (c .at .0) s))))
 
-    pub next-record : (e : Entry) → itemAt 0 s (c .at .0) ≡ Good e → given (recordHere e (record { at = inOctets (e .from .0 + e .length .0); left = inRecords (c .left .0 - 1) })) ≡ nextAt s c
+    pub next-record : (e : Entry) → itemAt 0 s (c .at .0) ≡ Good e → given (recordHere e (record { at = inOctets (e .from .0 + e .length .0); left = inRecordCount (c .left .0 - 1) })) ≡ nextAt s c
     unfolding nextAt followed
     next-record e q = rw (ne-eqb (c .left .0) 0 more, q)
 

@@ -7,14 +7,14 @@ use lib.ListN.{length, getD, take, drop, length-append, length-drop, take-append
 use lib.Seq.{getD-drop, take-at, drop-at, take-suc, drop-cons, length-take-le, drop-drop}
 use lib.Dec.{lit<}
 use Rattle.octets.proofs.Below.{below-take, below-drop}
-use Rattle.number.specs.Groups.{encoded, found, frontOf}
+use Rattle.number.specs.Groups.{encoded, found, frontNumber}
 use Rattle.number.proofs.Fronts.{encoded-front}
 use Rattle.number.proofs.Forms.{front-form, own-form}
 use Rattle.swap.specs.declared.kind.Kind.{Kind}
 use Rattle.swap.specs.declared.kind.Kind.the-variants.{Raw, Label}
 use Rattle.swap.specs.Record.{Record, Sound, OfOctets, Each, rank, rankOf, kindOf, lengthLimit}
 use Rattle.swap.specs.Encoding.{recordOctets}
-use Rattle.swap.specs.Items.{recordAt}
+use Rattle.swap.specs.Items.{frontRecord}
 use Rattle.swap.proofs.Shown.{Shown}
 
 -- the limit of every kind is below 2^32
@@ -66,7 +66,7 @@ module _ (r : Record) (rest t : List ℕ) (six : length (r .ads) ≡ 6) (is : t 
   unfolding rank
   rank-front = rw (take-suc t 6 0 (omega (arith, long-enough)), ads-front, tab-next)
 
-  length-front : Sound r → frontOf (drop 8 t) ≡ found (length (r .content)) (length (encoded (length (r .content))))
+  length-front : Sound r → frontNumber (drop 8 t) ≡ found (length (r .content)) (length (encoded (length (r .content))))
   length-front sound = rw from-length (front-form (length (r .content)) _ (omega (arith, sound .short, limit-small (kindOf (r .kind)))))
 
   pub record-shown : Sound r → (least : ℕ) → least ≤ rank r → Shown least t (length (encoded (length (r .content)))) (length (r .content))
@@ -80,8 +80,8 @@ module _ (r : Record) (rest t : List ℕ) (six : length (r .ads) ≡ 6) (is : t 
         text = rw (kind-next, from-content, take-at (r .content) rest _ refl) (sound .text);
       }
 
-  pub record-front : recordAt (length (encoded (length (r .content)))) (length (r .content)) t ≡ r
-  unfolding recordAt
+  pub record-front : frontRecord (length (encoded (length (r .content)))) (length (r .content)) t ≡ r
+  unfolding frontRecord
   record-front = rw (ads-front, tab-next, kind-next, from-content, take-at (r .content) rest _ refl)
 
   -- what is shown of a record's octets is the record's own length
@@ -107,12 +107,12 @@ module _ (least : ℕ) (t : List ℕ) (w n : ℕ) (h : Shown least t w n) (octet
   content-length : length (take n (drop (8 + w) t)) ≡ n
   content-length = length-take-le n (drop (8 + w) t) (omega (arith, h .fits, length-drop (8 + w) t))
 
-  pub rank-shown : rank (recordAt w n t) ≡ rankOf (take 7 t)
-  unfolding rank recordAt
+  pub rank-shown : rank (frontRecord w n t) ≡ rankOf (take 7 t)
+  unfolding rank frontRecord
   rank-shown = rw (take-suc t 6 0 (omega (arith, h .fits)))
 
-  pub shown-sound : Sound (recordAt w n t)
-  unfolding recordAt
+  pub shown-sound : Sound (frontRecord w n t)
+  unfolding frontRecord
   shown-sound =
       record {
         address = length-take-le 6 t (omega (arith, h .fits));
@@ -124,8 +124,8 @@ module _ (least : ℕ) (t : List ℕ) (w n : ℕ) (h : Shown least t w n) (octet
         text = h .text;
       }
 
-  pub shown-octets : t ≡ recordOctets (recordAt w n t) ++ drop (8 + w + n) t
-  unfolding recordAt recordOctets
+  pub shown-octets : t ≡ recordOctets (frontRecord w n t) ++ drop (8 + w + n) t
+  unfolding frontRecord recordOctets
   shown-octets =
       let f = encoded-front (drop 8 t) n w (below-drop 256 (lit< tt) 8 t octets) (h .front) in
       let c : drop w (drop 8 t) ≡ take n (drop (8 + w) t) ++ drop (8 + w + n) t = drop-drop w 8 t ∙ sym (take-append-drop n (drop (8 + w) t)) ∙ rw (drop-drop n (8 + w) t) in

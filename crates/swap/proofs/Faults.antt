@@ -13,20 +13,20 @@ use mathlib.Core.Logic.{_⊎_, inl, inr}
 use Rattle.numbers.specs.declared.Octets.{Octets}
 use Rattle.numbers.specs.Counts.{inOctets}
 use Rattle.numbers.specs.Answer.{refusedAt}
-use Rattle.number.specs.Groups.{Front, found, none, frontOf}
+use Rattle.number.specs.Groups.{Front, found, none, frontNumber}
 use Rattle.swap.specs.declared.kind.Kind.{Kind}
 use Rattle.swap.specs.Record.{Record, kindOf, rankOf, countLimit, fileLimit}
-use Rattle.swap.specs.Items.{Judged, bad, good, judged, judgedContent, goodAddress, goodKind, goodContent, lengthAt, limited, recordAt}
-use Rattle.swap.specs.Reading.{Outcome, faulty, listed, preceded, readRecords, readCounted, readFile, answered, verdictOf}
+use Rattle.swap.specs.Items.{Judged, bad, good, judged, judgedContent, goodAddress, goodKind, goodContent, lengthField, limited, frontRecord}
+use Rattle.swap.specs.Reading.{FileListing, faulty, listed, preceded, readRecords, readCounted, readFile, answerOfListing, verdictOf}
 use Rattle.swap.proofs.Shown.{within-limit}
-use Rattle.swap.specs.Faults.{Due, countDue, addressDue, kindDue, lengthDue, contentDue, restDue, Step, badItem, goodItem, fileEnd, recordsDue, counted, measured, item, Reached, first, passed}
+use Rattle.swap.specs.Faults.{Due, countDue, addressDue, kindDue, lengthDue, contentDue, restDue, ItemStep, badItem, goodItem, fileEnd, recordsDue, countRead, lengthRead, item, Reached, first, passed}
 
 -- what a reading comes to, without the records
 data Fate : Type 0 where
   clean : Fate
   badAt : ℕ → Fate
 
-fate : Outcome → Fate
+fate : FileListing → Fate
 fate (faulty o) = badAt o
 fate (listed rs) = clean
 
@@ -41,13 +41,13 @@ fromMeasured k rank kind (found n w) at t = fromContent k rank kind n (at + w) (
 fromKind : ℕ → ℕ → ℕ → List ℕ → Fate
 fromKind k rank at t =
     cond (goodKind t)
-    (fromMeasured k rank (kindOf (getD t 0 0)) (lengthAt (kindOf (getD t 0 0)) (drop 1 t)) (at + 1) (drop 1 t))
+    (fromMeasured k rank (kindOf (getD t 0 0)) (lengthField (kindOf (getD t 0 0)) (drop 1 t)) (at + 1) (drop 1 t))
     (badAt at)
 
 fromAddress : ℕ → ℕ → ℕ → List ℕ → Fate
 fromAddress k least at t = cond (goodAddress least t) (fromKind k (rankOf (take 7 t)) (at + 7) (drop 7 t)) (badAt at)
 
-fate-preceded : (r : Record) (out : Outcome) → fate (preceded r out) ≡ fate out
+fate-preceded : (r : Record) (out : FileListing) → fate (preceded r out) ≡ fate out
 unfolding fate preceded
 fate-preceded r (faulty o) = refl
 fate-preceded r (listed rs) = refl
@@ -61,9 +61,9 @@ records-fate : (k least at : ℕ) (t : List ℕ) → fate (readRecords (suc k) l
 unfolding fate readRecords judgedFate
 records-fate k least at t = go (judged least t)
   where
-    go : (j : Judged) → fate (elim j [ bad o ↦ faulty (at + o) | good w n ↦ preceded (recordAt w n t) (readRecords k (suc (rankOf (take 7 t))) (at + (8 + w + n)) (drop (8 + w + n) t)) ]) ≡ judgedFate k (rankOf (take 7 t)) at t j
+    go : (j : Judged) → fate (elim j [ bad o ↦ faulty (at + o) | good w n ↦ preceded (frontRecord w n t) (readRecords k (suc (rankOf (take 7 t))) (at + (8 + w + n)) (drop (8 + w + n) t)) ]) ≡ judgedFate k (rankOf (take 7 t)) at t j
     go (bad o) = refl
-    go (good w n) = fate-preceded (recordAt w n t) _
+    go (good w n) = fate-preceded (frontRecord w n t) _
 
 content-fate : (k rank : ℕ) (kind : Kind) (f : Front) (at : ℕ) (t : List ℕ) → judgedFate k rank at t (judgedContent kind f (drop 8 t)) ≡ fromMeasured k rank kind f (at + 8) (drop 8 t)
 unfolding judgedFate judgedContent fromMeasured fromContent
@@ -83,10 +83,10 @@ address-fate k least at t = records-fate k least at t ∙ go (goodAddress least 
     kind : Kind
     kind = kindOf (getD t 7 0)
 
-    go : (a b : Bool) → judgedFate k (rankOf (take 7 t)) at t (cond a (cond b (judgedContent kind (lengthAt kind (drop 8 t)) (drop 8 t)) (bad 7)) (bad 0)) ≡ cond a (cond b (fromMeasured k (rankOf (take 7 t)) (kindOf (getD (drop 7 t) 0 0)) (lengthAt (kindOf (getD (drop 7 t) 0 0)) (drop 1 (drop 7 t))) (at + 7 + 1) (drop 1 (drop 7 t))) (badAt (at + 7))) (badAt at)
+    go : (a b : Bool) → judgedFate k (rankOf (take 7 t)) at t (cond a (cond b (judgedContent kind (lengthField kind (drop 8 t)) (drop 8 t)) (bad 7)) (bad 0)) ≡ cond a (cond b (fromMeasured k (rankOf (take 7 t)) (kindOf (getD (drop 7 t) 0 0)) (lengthField (kindOf (getD (drop 7 t) 0 0)) (drop 1 (drop 7 t))) (at + 7 + 1) (drop 1 (drop 7 t))) (badAt (at + 7))) (badAt at)
     go false b = ap badAt (add-zero at)
     go true false = refl
-    go true true = content-fate k (rankOf (take 7 t)) kind (lengthAt kind (drop 8 t)) at t ∙ rw (getD-drop 7 t 0 0, drop-drop 1 7 t, add-assoc)
+    go true true = content-fate k (rankOf (take 7 t)) kind (lengthField kind (drop 8 t)) at t ∙ rw (getD-drop 7 t 0 0, drop-drop 1 7 t, add-assoc)
 
 fromCounted : Front → ℕ → List ℕ → Fate
 fromCounted none at t = badAt at
@@ -94,10 +94,10 @@ fromCounted (found n w) at t = fate (readRecords n 0 (at + w) (drop w t))
 
 -- what the reading comes to from any item on
 resumed : Due → ℕ → List ℕ → Fate
-resumed countDue at t = fromCounted (limited countLimit (frontOf t)) at t
+resumed countDue at t = fromCounted (limited countLimit (frontNumber t)) at t
 resumed (addressDue k least) at t = fromAddress k least at t
 resumed (kindDue k rank) at t = fromKind k rank at t
-resumed (lengthDue k rank kind) at t = fromMeasured k rank kind (lengthAt kind t) at t
+resumed (lengthDue k rank kind) at t = fromMeasured k rank kind (lengthField kind t) at t
 resumed (contentDue k rank kind n) at t = fromContent k rank kind n at t
 resumed restDue at t = fate (readRecords 0 0 at t)
 
@@ -114,10 +114,10 @@ good-step true w v d next e = (refl, cc, cc)
 good-step false w v d next e = let z : _≡_ {A = ℕ} 0 1 = cc in let y : ⊥ = omega arith in absurd y
 
 resumed-on : (d : Due) (at w : ℕ) (t : List ℕ) (next : Due) → item d t ≡ goodItem w next → resumed d at t ≡ resumed next (at + w) (drop w t)
-unfolding item resumed counted measured fromCounted fromMeasured fromContent fromKind fromAddress
-resumed-on countDue at w t next e = go (limited countLimit (frontOf t)) e
+unfolding item resumed countRead lengthRead fromCounted fromMeasured fromContent fromKind fromAddress
+resumed-on countDue at w t next e = go (limited countLimit (frontNumber t)) e
   where
-    go : (f : Front) → counted f ≡ goodItem w next → fromCounted f at t ≡ resumed next (at + w) (drop w t)
+    go : (f : Front) → countRead f ≡ goodItem w next → fromCounted f at t ≡ resumed next (at + w) (drop w t)
     go none r = let z : _≡_ {A = ℕ} 0 1 = cc in let y : ⊥ = omega arith in absurd y
     go (found n v) r =
         let p : v ≡ w = cc in
@@ -129,9 +129,9 @@ resumed-on (addressDue k least) at w t next e =
 resumed-on (kindDue k rank) at w t next e =
     let g = good-step (goodKind t) w 1 _ next e in
     rw (g .0, ← g .1, ← g .2)
-resumed-on (lengthDue k rank kind) at w t next e = go (lengthAt kind t) e
+resumed-on (lengthDue k rank kind) at w t next e = go (lengthField kind t) e
   where
-    go : (f : Front) → measured k rank kind f ≡ goodItem w next → fromMeasured k rank kind f at t ≡ resumed next (at + w) (drop w t)
+    go : (f : Front) → lengthRead k rank kind f ≡ goodItem w next → fromMeasured k rank kind f at t ≡ resumed next (at + w) (drop w t)
     go none r = let z : _≡_ {A = ℕ} 0 1 = cc in let y : ⊥ = omega arith in absurd y
     go (found n v) r =
         let p : v ≡ w = cc in
@@ -153,17 +153,17 @@ not-end true v d e = let z : _≡_ {A = ℕ} 0 1 = cc in omega arith
 not-end false v d e = let z : _≡_ {A = ℕ} 0 1 = cc in omega arith
 
 resumed-bad : (d : Due) (at : ℕ) (t : List ℕ) → item d t ≡ badItem → resumed d at t ≡ badAt at
-unfolding item resumed counted measured fate readRecords fromCounted fromMeasured fromContent fromKind fromAddress
-resumed-bad countDue at t e = go (limited countLimit (frontOf t)) e
+unfolding item resumed countRead lengthRead fate readRecords fromCounted fromMeasured fromContent fromKind fromAddress
+resumed-bad countDue at t e = go (limited countLimit (frontNumber t)) e
   where
-    go : (f : Front) → counted f ≡ badItem → fromCounted f at t ≡ badAt at
+    go : (f : Front) → countRead f ≡ badItem → fromCounted f at t ≡ badAt at
     go none r = refl
     go (found n v) r = let z : _≡_ {A = ℕ} 0 1 = cc in let y : ⊥ = omega arith in absurd y
 resumed-bad (addressDue k least) at t e = rw (bad-step (goodAddress least t) _ _ e)
 resumed-bad (kindDue k rank) at t e = rw (bad-step (goodKind t) _ _ e)
-resumed-bad (lengthDue k rank kind) at t e = go (lengthAt kind t) e
+resumed-bad (lengthDue k rank kind) at t e = go (lengthField kind t) e
   where
-    go : (f : Front) → measured k rank kind f ≡ badItem → fromMeasured k rank kind f at t ≡ badAt at
+    go : (f : Front) → lengthRead k rank kind f ≡ badItem → fromMeasured k rank kind f at t ≡ badAt at
     go none r = refl
     go (found n v) r = let z : _≡_ {A = ℕ} 0 1 = cc in let y : ⊥ = omega arith in absurd y
 resumed-bad (contentDue k rank kind n) at t e = rw (bad-step (goodContent kind n t) _ _ e)
@@ -172,17 +172,17 @@ resumed-bad restDue at (o ∷ t) e = refl
 
 -- where the file ends there is no fault
 resumed-end : (d : Due) (at : ℕ) (t : List ℕ) → item d t ≡ fileEnd → resumed d at t ≡ clean
-unfolding item resumed counted measured fate readRecords
-resumed-end countDue at t e = absurd (go (limited countLimit (frontOf t)) e)
+unfolding item resumed countRead lengthRead fate readRecords
+resumed-end countDue at t e = absurd (go (limited countLimit (frontNumber t)) e)
   where
-    go : (f : Front) → counted f ≡ fileEnd → ⊥
+    go : (f : Front) → countRead f ≡ fileEnd → ⊥
     go none r = let z : _≡_ {A = ℕ} 0 1 = cc in omega arith
     go (found n v) r = let z : _≡_ {A = ℕ} 0 1 = cc in omega arith
 resumed-end (addressDue k least) at t e = absurd (not-end (goodAddress least t) _ _ e)
 resumed-end (kindDue k rank) at t e = absurd (not-end (goodKind t) _ _ e)
-resumed-end (lengthDue k rank kind) at t e = absurd (go (lengthAt kind t) e)
+resumed-end (lengthDue k rank kind) at t e = absurd (go (lengthField kind t) e)
   where
-    go : (f : Front) → measured k rank kind f ≡ fileEnd → ⊥
+    go : (f : Front) → lengthRead k rank kind f ≡ fileEnd → ⊥
     go none r = let z : _≡_ {A = ℕ} 0 1 = cc in omega arith
     go (found n v) r = let z : _≡_ {A = ℕ} 0 1 = cc in omega arith
 resumed-end (contentDue k rank kind n) at t e = absurd (not-end (goodContent kind n t) _ _ e)
@@ -204,19 +204,19 @@ weight-records zero least = refl
 weight-records (suc k) least = omega arith
 
 weight-falls : (d : Due) (t : List ℕ) (w : ℕ) (next : Due) → item d t ≡ goodItem w next → weight next < weight d
-unfolding item counted measured weight
-weight-falls countDue t w next e = go (limited countLimit (frontOf t)) refl e
+unfolding item countRead lengthRead weight
+weight-falls countDue t w next e = go (limited countLimit (frontNumber t)) refl e
   where
-    go : (f : Front) → limited countLimit (frontOf t) ≡ f → counted f ≡ goodItem w next → weight next < 4 * countLimit + 1
+    go : (f : Front) → limited countLimit (frontNumber t) ≡ f → countRead f ≡ goodItem w next → weight next < 4 * countLimit + 1
     go none q r = let z : _≡_ {A = ℕ} 0 1 = cc in let y : ⊥ = omega arith in absurd y
     go (found n v) q r =
         let p : recordsDue n 0 ≡ next = cc in
-        rw (← p) (omega (arith, weight-records n 0, within-limit countLimit (frontOf t) n v q .1))
+        rw (← p) (omega (arith, weight-records n 0, within-limit countLimit (frontNumber t) n v q .1))
 weight-falls (addressDue k least) t w next e = rw (← good-step (goodAddress least t) w 7 _ next e .2) (omega arith)
 weight-falls (kindDue k rank) t w next e = rw (← good-step (goodKind t) w 1 _ next e .2) (omega arith)
-weight-falls (lengthDue k rank kind) t w next e = go (lengthAt kind t) e
+weight-falls (lengthDue k rank kind) t w next e = go (lengthField kind t) e
   where
-    go : (f : Front) → measured k rank kind f ≡ goodItem w next → weight next < 4 * k + 2
+    go : (f : Front) → lengthRead k rank kind f ≡ goodItem w next → weight next < 4 * k + 2
     go none r = let z : _≡_ {A = ℕ} 0 1 = cc in let y : ⊥ = omega arith in absurd y
     go (found n v) r = let q : contentDue k rank kind n ≡ next = cc in rw (← q) (omega arith)
 weight-falls (contentDue k rank kind n) t w next e =
@@ -227,7 +227,7 @@ weight-falls restDue (o ∷ t) w next e = let z : _≡_ {A = ℕ} 0 1 = cc in le
 module _ (s : List ℕ) (h : length s ≤ fileLimit) where
   first-fate : fate (readFile s) ≡ resumed countDue 0 s
   unfolding resumed fromCounted fate readFile readCounted
-  first-fate = rw (le-ltb fileLimit (length s) h) (go (limited countLimit (frontOf s)))
+  first-fate = rw (le-ltb fileLimit (length s) h) (go (limited countLimit (frontNumber s)))
     where
       go : (f : Front) → fate (readCounted f s) ≡ fromCounted f 0 s
       go none = refl
@@ -243,7 +243,7 @@ module _ (s : List ℕ) (h : length s ≤ fileLimit) where
   unfolding fate
   reached-bad {d} {at} r e = go (readFile s) (reached-fate r ∙ resumed-bad d at (drop at s) e)
     where
-      go : (out : Outcome) → fate out ≡ badAt at → out ≡ faulty at
+      go : (out : FileListing) → fate out ≡ badAt at → out ≡ faulty at
       go (faulty o) q = let p : o ≡ at = cc in rw p
       go (listed rs) q = let z : _≡_ {A = ℕ} 0 1 = cc in let y : ⊥ = omega arith in absurd y
 
@@ -256,7 +256,7 @@ module _ (s : List ℕ) (h : length s ≤ fileLimit) where
     stops zero d at l r e = let z : ⊥ = omega arith in absurd z
     stops (suc fuel) d at l r e = go (item d (drop at s)) refl (stops fuel)
       where
-        go : (i : Step) → item d (drop at s) ≡ i → ((d : Due) (at : ℕ) → weight d < fuel → Reached s d at → resumed d at (drop at s) ≡ badAt o → (e : Due) × Reached s e o × (item e (drop o s) ≡ badItem)) → (e : Due) × Reached s e o × (item e (drop o s) ≡ badItem)
+        go : (i : ItemStep) → item d (drop at s) ≡ i → ((d : Due) (at : ℕ) → weight d < fuel → Reached s d at → resumed d at (drop at s) ≡ badAt o → (e : Due) × Reached s e o × (item e (drop o s) ≡ badItem)) → (e : Due) × Reached s e o × (item e (drop o s) ≡ badItem)
         go badItem q ih =
             let b : badAt at ≡ badAt o = sym (resumed-bad d at (drop at s) q) ∙ e in
             let p : at ≡ o = cc in
@@ -278,7 +278,7 @@ pub refused-where : (s : List ℕ) (n : ℕ) (offset : Octets) → verdictOf s �
 unfolding verdictOf
 refused-where s n offset e = go (ltb fileLimit (length s)) refl (readFile s) refl e
   where
-    go : (b : Bool) → ltb fileLimit (length s) ≡ b → (out : Outcome) → readFile s ≡ out → answered out ≡ refusedAt n offset → ((fileLimit < length s) × (offset .0 ≡ fileLimit)) ⊎ ((d : Due) × Reached s d (offset .0) × (item d (drop (offset .0) s) ≡ badItem))
+    go : (b : Bool) → ltb fileLimit (length s) ≡ b → (out : FileListing) → readFile s ≡ out → answerOfListing out ≡ refusedAt n offset → ((fileLimit < length s) × (offset .0 ≡ fileLimit)) ⊎ ((d : Due) × Reached s d (offset .0) × (item d (drop (offset .0) s) ≡ badItem))
     go b h (listed rs) q r = let z : _≡_ {A = ℕ} 0 1 = cc in let y : ⊥ = omega arith in absurd y
     go true h (faulty o) q r =
         let l : fileLimit < length s = ltb-true fileLimit (length s) h in

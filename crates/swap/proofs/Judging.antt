@@ -9,29 +9,29 @@ use lib.Seq.{drop-drop, getD-drop}
 use lib.Dec.{leb, ltb}
 use borrow.Author.Tests.{lt-ltb, le-ltb, le-leb, lt-leb}
 use Rattle.numbers.specs.Counts.{inOctets}
-use Rattle.number.specs.Groups.{found, none, frontOf}
+use Rattle.number.specs.Groups.{found, none, frontNumber}
 use Rattle.swap.specs.declared.kind.Kind.{Kind}
 use Rattle.swap.specs.declared.item.Item.the-variants.{Good, Bad}
-use Rattle.swap.specs.Record.{knownKind, kindOf, lengthLimit, acceptable, rankOf}
-use Rattle.swap.specs.Items.{bad, good, judged, judgedContent, lengthAt, limited, goodContent, goodKind, goodAddress}
+use Rattle.swap.specs.Record.{knownKind, kindOf, lengthLimit, fitsKind, rankOf}
+use Rattle.swap.specs.Items.{bad, good, judged, judgedContent, lengthField, limited, goodContent, goodKind, goodAddress}
 use Rattle.swap.specs.Cursor.{placedItem, itemAt, contentAt}
 
 module _ (kind : Kind) (s : List ℕ) (at : ℕ) where
-  pub content-none : frontOf (drop (at + 8) s) ≡ none → Bad (inOctets (at + 8)) ≡ contentAt kind s at
-  unfolding contentAt placedItem judgedContent lengthAt limited
+  pub content-none : frontNumber (drop (at + 8) s) ≡ none → Bad (inOctets (at + 8)) ≡ contentAt kind s at
+  unfolding contentAt placedItem judgedContent lengthField limited
   content-none e = rw e
 
-  pub content-long : (n w : ℕ) → frontOf (drop (at + 8) s) ≡ found n w → lengthLimit kind < n → Bad (inOctets (at + 8)) ≡ contentAt kind s at
-  unfolding contentAt placedItem judgedContent lengthAt limited
+  pub content-long : (n w : ℕ) → frontNumber (drop (at + 8) s) ≡ found n w → lengthLimit kind < n → Bad (inOctets (at + 8)) ≡ contentAt kind s at
+  unfolding contentAt placedItem judgedContent lengthField limited
   content-long n w e h = rw (e, lt-leb n (lengthLimit kind) h)
 
-  module _ (n w next : ℕ) (e : frontOf (drop (at + 8) s) ≡ found n w) (h : n ≤ lengthLimit kind) (p : next ≡ at + 8 + w) where
+  module _ (n w next : ℕ) (e : frontNumber (drop (at + 8) s) ≡ found n w) (h : n ≤ lengthLimit kind) (p : next ≡ at + 8 + w) where
     -- the data from next on
     from-next : drop w (drop (at + 8) s) ≡ drop next s
     from-next = rw (drop-drop, p)
 
     content-is : contentAt kind s at ≡ placedItem at kind (drop at s) (cond (goodContent kind n (drop next s)) (good w n) (bad (8 + w)))
-    unfolding contentAt judgedContent lengthAt limited
+    unfolding contentAt judgedContent lengthField limited
     content-is = rw (e, le-leb n (lengthLimit kind) h, from-next)
 
     content-refused : goodContent kind n (drop next s) ≡ false → Bad (inOctets next) ≡ contentAt kind s at
@@ -42,11 +42,11 @@ module _ (kind : Kind) (s : List ℕ) (at : ℕ) where
     unfolding goodContent
     content-cut a c = content-refused (rw (lt-leb n (length (drop next s)) (omega (arith, length-drop next s))))
 
-    pub content-ill : acceptable kind (take n (drop next s)) ≡ false → Bad (inOctets next) ≡ contentAt kind s at
+    pub content-ill : fitsKind kind (take n (drop next s)) ≡ false → Bad (inOctets next) ≡ contentAt kind s at
     unfolding goodContent
     content-ill f = content-refused (rw f (and-false (leb n (length (drop next s)))))
 
-    pub content-good : next ≤ length s → n ≤ length s - next → acceptable kind (take n (drop next s)) ≡ true → Good (record { at = inOctets at; tab = getD s (at + 6) 0; kind = kind; from = inOctets next; length = inOctets n }) ≡ contentAt kind s at
+    pub content-good : next ≤ length s → n ≤ length s - next → fitsKind kind (take n (drop next s)) ≡ true → Good (record { at = inOctets at; tab = getD s (at + 6) 0; kind = kind; from = inOctets next; length = inOctets n }) ≡ contentAt kind s at
     unfolding goodContent placedItem
     content-good a c f =
         let q : at + 8 + w ≡ next = omega arith in

@@ -7,9 +7,9 @@ use lib.ListN.{length}
 use Rattle.numbers.specs.Counts.{inOctets}
 use Rattle.numbers.specs.Answer.{refusedAt}
 use Rattle.numbers.specs.Table.{faultyFile}
-use Rattle.number.specs.Groups.{joined, decoded, bounded, frontOf}
+use Rattle.number.specs.Groups.{joined, decoded, bounded, frontNumber}
 use Rattle.swap.specs.Record.{knownKind, kindOf, lengthLimit, numberFrom, rankOf}
-use Rattle.swap.specs.Items.{goodAddress, goodKind, limited, lengthAt, goodContent, judgedContent, judged}
+use Rattle.swap.specs.Items.{goodAddress, goodKind, limited, lengthField, goodContent, judgedContent, judged}
 use Rattle.swap.specs.Reading.{preceded, readRecords, readCounted, readFile, verdictOf}
 use Rattle.swap.proofs.Verdicts.{verdict-long, verdict-records}
 
@@ -20,7 +20,7 @@ cut kind n = 0x01 ∷ 0x11 ∷ 0x22 ∷ 0x33 ∷ 0x44 ∷ 0x55 ∷ 0x66 ∷ 0x0A
 -- After the greatest count, or length, the fault is that the next item is missing; one more is itself the fault.
 pub greatest-numbers : map verdictOf ((0x80 ∷ 0x20 ∷ []) ∷ (0x81 ∷ 0x20 ∷ []) ∷ cut 0 116 ∷ cut 0 117 ∷ cut 1 116 ∷ cut 1 117 ∷ [])
     ≡ map (λ o. refusedAt faultyFile (inOctets o)) (2 ∷ 0 ∷ 10 ∷ 9 ∷ 10 ∷ 9 ∷ [])
-unfolding verdictOf readFile readCounted readRecords preceded judged goodAddress goodKind lengthAt limited goodContent judgedContent knownKind kindOf lengthLimit rankOf numberFrom frontOf bounded decoded joined
+unfolding verdictOf readFile readCounted readRecords preceded judged goodAddress goodKind lengthField limited goodContent judgedContent knownKind kindOf lengthLimit rankOf numberFrom frontNumber bounded decoded joined
 greatest-numbers = refl
 
 -- a file of 65,537 octets is too long; one of 65,536 that counts no records is read, and what follows the count is the fault
@@ -28,5 +28,5 @@ pub longer-file : (s : List ℕ) → length s ≡ 65537 → verdictOf s ≡ refu
 longer-file s h = sym (verdict-long s (omega arith))
 
 pub longest-file : (o : ℕ) (s : List ℕ) → length (0 ∷ o ∷ s) ≡ 65536 → verdictOf (0 ∷ o ∷ s) ≡ refusedAt faultyFile (inOctets 1)
-unfolding readRecords frontOf bounded decoded
+unfolding readRecords frontNumber bounded decoded
 longest-file o s h = sym (verdict-records (0 ∷ o ∷ s) (omega arith) 0 1 refl (omega arith))

@@ -10,14 +10,14 @@ use lib.Dec.{ltb, lit<}
 use borrow.Author.Tests.{le-ltb, le-leb, ltb-false}
 use Rattle.octets.proofs.Below.{below-drop}
 use Rattle.numbers.specs.Answer.{given}
-use Rattle.number.specs.Groups.{Front, found, none, encoded, frontOf}
+use Rattle.number.specs.Groups.{Front, found, none, encoded, frontNumber}
 use Rattle.number.proofs.Fronts.{encoded-front}
 use Rattle.number.proofs.Forms.{front-form, own-form}
 use Rattle.swap.specs.Record.{Record, Sound, OfOctets, Each, Rising, rank, rankOf, countLimit, fileLimit}
 use Rattle.swap.specs.Encoding.{recordOctets, recordsOctets, encode, Within}
-use Rattle.swap.specs.Items.{Judged, bad, good, judged, recordAt, limited}
-use Rattle.swap.specs.declared.file.Records.{Records}
-use Rattle.swap.specs.Reading.{Outcome, faulty, listed, preceded, readRecords, readCounted, readFile, answered, verdictOf, inRecords}
+use Rattle.swap.specs.Items.{Judged, bad, good, judged, frontRecord, limited}
+use Rattle.swap.specs.declared.file.RecordCount.{RecordCount}
+use Rattle.swap.specs.Reading.{FileListing, faulty, listed, preceded, readRecords, readCounted, readFile, answerOfListing, verdictOf, inRecordCount}
 use Rattle.swap.proofs.Shown.{shown, shown-good, within-limit}
 use Rattle.swap.proofs.Encoded.{record-shown, record-front, from-rest, rank-front, rank-shown, shown-sound, shown-octets, own-length, own-sound}
 use Rattle.swap.proofs.Tally.{records-bad, records-good}
@@ -42,18 +42,18 @@ listed-records (suc k) least at t rs b e = go (judged least t) refl (listed-reco
     go (bad o) q ih = absurd (not-listed (at + o) rs (rw (q, readRecords) at e))
     go (good w n) q ih = next (readRecords k (suc (rankOf (take 7 t))) (at + (8 + w + n)) (drop (8 + w + n) t)) refl (sym (records-good k least at t w n q) ∙ e)
       where
-        next : (out : Outcome) → readRecords k (suc (rankOf (take 7 t))) (at + (8 + w + n)) (drop (8 + w + n) t) ≡ out → preceded (recordAt w n t) out ≡ listed rs → Listed (suc k) least t rs
+        next : (out : FileListing) → readRecords k (suc (rankOf (take 7 t))) (at + (8 + w + n)) (drop (8 + w + n) t) ≡ out → preceded (frontRecord w n t) out ≡ listed rs → Listed (suc k) least t rs
         next (faulty o) p r = absurd (not-listed o rs r)
         next (listed more) p r =
             let h = shown least t w n q in
             let s = ih _ _ (drop (8 + w + n) t) more (below-drop 256 (lit< tt) (8 + w + n) t b) p in
-            let same : recordAt w n t ∷ more ≡ rs = cc in
+            let same : frontRecord w n t ∷ more ≡ rs = cc in
             rw (← same)
             (record {
-              octets = shown-octets least t w n h b ∙ ap (λ (u : List ℕ). recordOctets (recordAt w n t) ++ u) (s .octets);
+              octets = shown-octets least t w n h b ∙ ap (λ (u : List ℕ). recordOctets (frontRecord w n t) ++ u) (s .octets);
               count = ap suc (s .count);
               sound = Each.more (shown-sound least t w n h b) (s .sound);
-              rising = Rising.more {least = least} {r = recordAt w n t} {rs = more} (rw (rank-shown least t w n h b) (h .high)) (rw (rank-shown least t w n h b) (s .rising));
+              rising = Rising.more {least = least} {r = frontRecord w n t} {rs = more} (rw (rank-shown least t w n h b) (h .high)) (rw (rank-shown least t w n h b) (s .rising));
             })
 
 -- sound and rising records are read from their octets
@@ -72,10 +72,10 @@ pub read-encode : (s : List ℕ) (rs : List Record) → ((i : ℕ) → getD s i 
 unfolding readFile encode readCounted
 read-encode s rs b e = go (ltb fileLimit (length s)) refl
   where
-    counted : (f : Front) → limited countLimit (frontOf s) ≡ f → length s ≤ fileLimit → readCounted f s ≡ listed rs → (s ≡ encode rs) × Within rs
+    counted : (f : Front) → limited countLimit (frontNumber s) ≡ f → length s ≤ fileLimit → readCounted f s ≡ listed rs → (s ≡ encode rs) × Within rs
     counted none q h r = absurd (not-listed 0 rs r)
     counted (found n w) q h r =
-        let l = within-limit countLimit (frontOf s) n w q in
+        let l = within-limit countLimit (frontNumber s) n w q in
         let f = encoded-front s n w b (l .0) in
         let c = listed-records n 0 w (drop w s) rs (below-drop 256 (lit< tt) w s b) r in
         let same : s ≡ encode rs = f .octets ∙ rw (c .count, c .octets) in (
@@ -90,14 +90,14 @@ read-encode s rs b e = go (ltb fileLimit (length s)) refl
 
     go : (t : Bool) → ltb fileLimit (length s) ≡ t → (s ≡ encode rs) × Within rs
     go true h = absurd (not-listed fileLimit rs (rw h at e))
-    go false h = counted (limited countLimit (frontOf s)) refl (ltb-false fileLimit (length s) h) (rw h at e)
+    go false h = counted (limited countLimit (frontNumber s)) refl (ltb-false fileLimit (length s) h) (rw h at e)
 
 -- records within all rules, written and read, are the same records
 pub encode-read : (rs : List Record) → Within rs → readFile (encode rs) ≡ listed rs
 unfolding readFile encode readCounted limited
 encode-read rs h =
     let w : ℕ = length (encoded (length rs)) in
-    let f : frontOf (encoded (length rs) ++ recordsOctets rs) ≡ found (length rs) w = front-form (length rs) (recordsOctets rs) (omega (arith, h .few)) in
+    let f : frontNumber (encoded (length rs) ++ recordsOctets rs) ≡ found (length rs) w = front-form (length rs) (recordsOctets rs) (omega (arith, h .few)) in
     rw (le-ltb fileLimit (length (encoded (length rs) ++ recordsOctets rs)) (h .small), f, le-leb (length rs) countLimit (h .few), drop-at (encoded (length rs)) (recordsOctets rs) w refl)
     (records-listed 0 w (h .sound) (h .rising))
 
@@ -108,19 +108,19 @@ one-list rs qs h k e =
     cc
 
 -- a file with this verdict is the encoding of so many records within all rules
-pub accepted-encoding : (s : List ℕ) (n : ℕ) → ((i : ℕ) → getD s i 0 < 256) → verdictOf s ≡ given (inRecords n) → (rs : List Record) × (s ≡ encode rs) × Within rs × (length rs ≡ n)
+pub accepted-encoding : (s : List ℕ) (n : ℕ) → ((i : ℕ) → getD s i 0 < 256) → verdictOf s ≡ given (inRecordCount n) → (rs : List Record) × (s ≡ encode rs) × Within rs × (length rs ≡ n)
 unfolding verdictOf
 accepted-encoding s n b e = go (readFile s) refl e
   where
-    go : (out : Outcome) → readFile s ≡ out → answered out ≡ given (inRecords n) → (rs : List Record) × (s ≡ encode rs) × Within rs × (length rs ≡ n)
+    go : (out : FileListing) → readFile s ≡ out → answerOfListing out ≡ given (inRecordCount n) → (rs : List Record) × (s ≡ encode rs) × Within rs × (length rs ≡ n)
     go (faulty o) q r = let z : _≡_ {A = ℕ} 0 1 = cc in let y : ⊥ = omega arith in absurd y
     go (listed rs) q r =
-        let c : inRecords (length rs) ≡ inRecords n = cc in
+        let c : inRecordCount (length rs) ≡ inRecordCount n = cc in
         let f = read-encode s rs b q in
-        (rs, f .0, f .1, ap (λ (c : Records). c .0) c)
+        (rs, f .0, f .1, ap (λ (c : RecordCount). c .0) c)
 
 -- and has it
-pub encoding-accepted : (rs : List Record) → Within rs → verdictOf (encode rs) ≡ given (inRecords (length rs))
+pub encoding-accepted : (rs : List Record) → Within rs → verdictOf (encode rs) ≡ given (inRecordCount (length rs))
 unfolding verdictOf
 encoding-accepted rs h = rw (encode-read rs h)
 
@@ -144,16 +144,16 @@ own-records least at rs (Each.more {r = p} {rs = ps} o s) e = go (judged least t
     go (bad b) q ih = absurd (not-listed (at + b) rs (sym (records-bad (length ps) least at t b q) ∙ e))
     go (good w n) q ih = next (readRecords (length ps) (suc (rankOf (take 7 t))) (at + (8 + w + n)) (drop (8 + w + n) t)) refl (sym (records-good (length ps) least at t w n q) ∙ e)
       where
-        next : (out : Outcome) → readRecords (length ps) (suc (rankOf (take 7 t))) (at + (8 + w + n)) (drop (8 + w + n) t) ≡ out → preceded (recordAt w n t) out ≡ listed rs → Own least (p ∷ ps) rs
+        next : (out : FileListing) → readRecords (length ps) (suc (rankOf (take 7 t))) (at + (8 + w + n)) (drop (8 + w + n) t) ≡ out → preceded (frontRecord w n t) out ≡ listed rs → Own least (p ∷ ps) rs
         next (faulty b) x r = absurd (not-listed b rs r)
         next (listed qs) x r =
             let h = shown least t w n q in
             let l = own-length p (recordsOctets ps) t (o .address) refl least w n h in
             let k : rankOf (take 7 t) ≡ rank p = rank-front p (recordsOctets ps) t (o .address) refl in
             let d : drop (8 + w + n) t ≡ recordsOctets ps = rw (← l .0, ← l .1) (from-rest p (recordsOctets ps) t (o .address) refl) in
-            let f : recordAt w n t ≡ p = rw (← l .0, ← l .1) (record-front p (recordsOctets ps) t (o .address) refl) in
+            let f : frontRecord w n t ≡ p = rw (← l .0, ← l .1) (record-front p (recordsOctets ps) t (o .address) refl) in
             let m = ih (suc (rank p)) (at + (8 + w + n)) qs (rw (d, k) at x) in
-            let a : recordAt w n t ∷ qs ≡ rs = cc in
+            let a : frontRecord w n t ∷ qs ≡ rs = cc in
             record {
               same = rw (m .same, ← f) a;
               sound = Each.more (own-sound p (recordsOctets ps) t (o .address) refl o least w n h) (m .sound);
@@ -161,7 +161,7 @@ own-records least at rs (Each.more {r = p} {rs = ps} o s) e = go (judged least t
             }
 
 -- records of octets whose encoding is accepted are within all rules, as many as the verdict says
-pub accepted-own : (ps : List Record) (c : Records) → Each OfOctets ps → verdictOf (encode ps) ≡ given c → Within ps × (length ps ≡ c .0)
+pub accepted-own : (ps : List Record) (c : RecordCount) → Each OfOctets ps → verdictOf (encode ps) ≡ given c → Within ps × (length ps ≡ c .0)
 unfolding encode
 accepted-own ps c o e =
     let a = accepted (encode ps) c e in

@@ -8,20 +8,20 @@ use lib.ListN.{length, getD, take, drop, length-drop}
 use lib.Seq.{drop-drop, getD-drop}
 use lib.Dec.{leb, ltb}
 use borrow.Author.Tests.{lt-ltb, le-leb, leb-true}
-use Rattle.number.specs.Groups.{Front, found, none, frontOf}
+use Rattle.number.specs.Groups.{Front, found, none, frontNumber}
 use Rattle.number.proofs.Fronts.{front-within}
 use Rattle.swap.specs.declared.kind.Kind.{Kind}
-use Rattle.swap.specs.Record.{knownKind, kindOf, lengthLimit, acceptable, rankOf}
-use Rattle.swap.specs.Items.{Judged, bad, good, judged, judgedContent, lengthAt, limited, goodContent, goodKind, goodAddress}
+use Rattle.swap.specs.Record.{knownKind, kindOf, lengthLimit, fitsKind, rankOf}
+use Rattle.swap.specs.Items.{Judged, bad, good, judged, judgedContent, lengthField, limited, goodContent, goodKind, goodAddress}
 
 -- the items of a good record at the front of t: its length takes w octets and is n
 pub record Shown (least : ℕ) (t : List ℕ) (w n : ℕ) : Type 0 where
   pub high : least ≤ rankOf (take 7 t)
   pub known : knownKind (getD t 7 0) ≡ true
-  pub front : frontOf (drop 8 t) ≡ found n w
+  pub front : frontNumber (drop 8 t) ≡ found n w
   pub short : n ≤ lengthLimit (kindOf (getD t 7 0))
   pub fits : 8 + w + n ≤ length t
-  pub text : acceptable (kindOf (getD t 7 0)) (take n (drop (8 + w) t)) ≡ true
+  pub text : fitsKind (kindOf (getD t 7 0)) (take n (drop (8 + w) t)) ≡ true
 
 not-good : (o w n : ℕ) → bad o ≡ good w n → ⊥
 not-good o w n e = let z : _≡_ {A = ℕ} 0 1 = cc in omega arith
@@ -54,16 +54,16 @@ content-shown kind (found m v) s w n e =
     (rw (q, u), rw (← q, ← u) (p .0))
 
 pub shown : (least : ℕ) (t : List ℕ) (w n : ℕ) → judged least t ≡ good w n → Shown least t w n
-unfolding judged goodAddress goodKind goodContent lengthAt
+unfolding judged goodAddress goodKind goodContent lengthField
 shown least t w n e =
     let kind : Kind = kindOf (getD t 7 0) in
     let p = passed (goodAddress least t) _ 0 w n e in
     let a = and-eq-true-iff (leb 7 (length t)) (leb least (rankOf (take 7 t))) .0 (p .0) in
     let q = passed (goodKind (drop 7 t)) _ 7 w n (p .1) in
     let k = and-eq-true-iff (ltb 0 (length (drop 7 t))) (knownKind (getD (drop 7 t) 0 0)) .0 (q .0) in
-    let c = content-shown kind (lengthAt kind (drop 8 t)) (drop 8 t) w n (q .1) in
-    let l = within-limit (lengthLimit kind) (frontOf (drop 8 t)) n w (c .0) in
-    let g = and-eq-true-iff (leb n (length (drop w (drop 8 t)))) (acceptable kind (take n (drop w (drop 8 t)))) .0 (c .1) in
+    let c = content-shown kind (lengthField kind (drop 8 t)) (drop 8 t) w n (q .1) in
+    let l = within-limit (lengthLimit kind) (frontNumber (drop 8 t)) n w (c .0) in
+    let g = and-eq-true-iff (leb n (length (drop w (drop 8 t)))) (fitsKind kind (take n (drop w (drop 8 t)))) .0 (c .1) in
     let f = front-within (drop 8 t) n w (l .0) in
     record {
       high = leb-true _ _ (a .1);
@@ -76,7 +76,7 @@ shown least t w n e =
 
 -- and the other way round
 pub shown-good : (least : ℕ) (t : List ℕ) (w n : ℕ) → Shown least t w n → judged least t ≡ good w n
-unfolding judged goodAddress goodKind goodContent lengthAt limited judgedContent
+unfolding judged goodAddress goodKind goodContent lengthField limited judgedContent
 shown-good least t w n h =
     let a : leb 7 (length t) ≡ true = le-leb 7 (length t) (omega (arith, h .fits)) in
     let b : leb least (rankOf (take 7 t)) ≡ true = le-leb _ _ (h .high) in

@@ -9,13 +9,13 @@ use Rattle.octets.specs.Part.{same}
 use Rattle.swap.specs.declared.cursor.Cursor.{Cursor}
 use Rattle.swap.specs.Record.{Record}
 use Rattle.swap.specs.Reading.{listed, readFile}
-use Rattle.swap.specs.Cursor.{Standing, recordHere, fileEnd, startOf, Gives, GivesAll, Led}
+use Rattle.swap.specs.Cursor.{Standing, recordHere, fileEnd, startOf, GivesNext, GivesAll, Led}
 use Rattle.swap.specs.Cursor as cursor
 use Rattle.swap.proofs.Walking.{started-gives-all, led-gives-all}
 use Rattle.swap.specs.Station.{nextFor, GivesFor, GivesAllFor, ended, further, ofStation}
 use Rattle.swap.proofs.Searching.{first-end, first-found, first-other}
 
-module _ (ads s : List ℕ) (c after : Cursor) (r : Record) (g : Gives s c r after) where
+module _ (ads s : List ℕ) (c after : Cursor) (r : Record) (g : GivesNext s c r after) where
   -- the record at the cursor is the station's
   found : same (r .ads) ads ≡ true → GivesFor ads s c r after
   found e =
@@ -36,7 +36,7 @@ from-there ads s c d rs p (further g m) =
     further (record { entry = g .entry; here = p ∙ g .here; shows = g .shows }) m
 
 -- one record in its turn, with those of the station after it
-turn : (ads s : List ℕ) (c after : Cursor) (r : Record) (qs : List Record) → Gives s c r after → GivesAllFor ads s after (ofStation ads qs) → GivesAllFor ads s c (ofStation ads (r ∷ qs))
+turn : (ads s : List ℕ) (c after : Cursor) (r : Record) (qs : List Record) → GivesNext s c r after → GivesAllFor ads s after (ofStation ads qs) → GivesAllFor ads s c (ofStation ads (r ∷ qs))
 unfolding ofStation
 turn ads s c after r qs g more = go (same (r .ads) ads) refl
   where

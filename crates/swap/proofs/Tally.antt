@@ -13,10 +13,10 @@ use Rattle.numbers.specs.Answer.{Answer, given, refusedAt}
 use Rattle.numbers.specs.Table.{faultyFile}
 use Rattle.swap.specs.declared.item.Entry.{Entry}
 use Rattle.swap.specs.declared.item.Item.the-variants.{Good, Bad}
-use Rattle.swap.specs.declared.file.Records.{Records}
+use Rattle.swap.specs.declared.file.RecordCount.{RecordCount}
 use Rattle.swap.specs.Record.{Record, rankOf, kindOf}
-use Rattle.swap.specs.Items.{Judged, bad, good, judged, recordAt}
-use Rattle.swap.specs.Reading.{Outcome, faulty, listed, preceded, readRecords, inRecords, answered}
+use Rattle.swap.specs.Items.{Judged, bad, good, judged, frontRecord}
+use Rattle.swap.specs.Reading.{FileListing, faulty, listed, preceded, readRecords, inRecordCount, answerOfListing}
 use Rattle.swap.specs.Cursor.{placedItem, itemAt}
 use Rattle.swap.proofs.Shown.{shown}
 
@@ -25,21 +25,21 @@ pub records-bad : (left least at : ℕ) (t : List ℕ) (p : ℕ) → judged leas
 unfolding readRecords
 records-bad left least at t p e = rw (e, readRecords)
 
-pub records-good : (left least at : ℕ) (t : List ℕ) (w n : ℕ) → judged least t ≡ good w n → readRecords (suc left) least at t ≡ preceded (recordAt w n t) (readRecords left (suc (rankOf (take 7 t))) (at + (8 + w + n)) (drop (8 + w + n) t))
+pub records-good : (left least at : ℕ) (t : List ℕ) (w n : ℕ) → judged least t ≡ good w n → readRecords (suc left) least at t ≡ preceded (frontRecord w n t) (readRecords left (suc (rankOf (take 7 t))) (at + (8 + w + n)) (drop (8 + w + n) t))
 unfolding readRecords
 records-good left least at t w n e = rw (e, readRecords)
 
 -- the verdict where k records stand before what was read
-unfoldable pub tallied : ℕ → Outcome → Answer Records
+unfoldable pub tallied : ℕ → FileListing → Answer RecordCount
 tallied k (faulty o) = refusedAt faultyFile (inOctets o)
-tallied k (listed rs) = given (inRecords (k + length rs))
+tallied k (listed rs) = given (inRecordCount (k + length rs))
 
-pub tallied-none : (out : Outcome) → tallied 0 out ≡ answered out
+pub tallied-none : (out : FileListing) → tallied 0 out ≡ answerOfListing out
 unfolding tallied
 tallied-none (faulty o) = refl
 tallied-none (listed rs) = rw zero-add
 
-pub tallied-more : (k : ℕ) (r : Record) (out : Outcome) → tallied k (preceded r out) ≡ tallied (k + 1) out
+pub tallied-more : (k : ℕ) (r : Record) (out : FileListing) → tallied k (preceded r out) ≡ tallied (k + 1) out
 unfolding tallied preceded
 tallied-more k r (faulty o) = refl
 tallied-more k r (listed rs) = let e : k + suc (length rs) ≡ k + 1 + length rs = omega arith in rw e
@@ -66,18 +66,18 @@ item-good least s at e q = go (judged least (drop at s)) refl q
         (w, q ∙ rw m, sym f)
 
 -- where the loop stands: the verdict that it is to give is v
-pub record Tallied (s : List ℕ) (count : ℕ) (v : Answer Records) (at left least : ℕ) : Type 0 where
+pub record Tallied (s : List ℕ) (count : ℕ) (v : Answer RecordCount) (at left least : ℕ) : Type 0 where
   pub counted : left ≤ count
   pub within : at ≤ length s
   pub due : v ≡ tallied (count - left) (readRecords left least at (drop at s))
 
-pub tally-start : (s : List ℕ) (count start : ℕ) → start ≤ length s → Tallied s count (answered (readRecords count 0 start (drop start s))) start count 0
+pub tally-start : (s : List ℕ) (count start : ℕ) → start ≤ length s → Tallied s count (answerOfListing (readRecords count 0 start (drop start s))) start count 0
 tally-start s count start h =
     let z : count - count ≡ 0 = omega arith in
     record { counted = omega arith; within = h; due = rw z (sym (tallied-none (readRecords count 0 start (drop start s)))) }
 
 -- a bad item ends it
-pub tally-bad : (s : List ℕ) (count : ℕ) (v : Answer Records) (at left least : ℕ) (o : Octets) → Tallied s count v at left least → 0 < left → itemAt least s at ≡ Bad o → refusedAt faultyFile o ≡ v
+pub tally-bad : (s : List ℕ) (count : ℕ) (v : Answer RecordCount) (at left least : ℕ) (o : Octets) → Tallied s count v at left least → 0 < left → itemAt least s at ≡ Bad o → refusedAt faultyFile o ≡ v
 unfolding tallied
 tally-bad s count v at zero least o t h e = let z : ⊥ = omega arith in absurd z
 tally-bad s count v at (suc left) least o t h e =
@@ -85,7 +85,7 @@ tally-bad s count v at (suc left) least o t h e =
     sym (t .due ∙ rw (records-bad left least at (drop at s) (b .0) (b .1), ← b .2))
 
 -- a good one leads to the next record
-pub tally-good : (s : List ℕ) (count : ℕ) (v : Answer Records) (at left least : ℕ) (e : Entry) → Tallied s count v at left least → 0 < left → itemAt least s at ≡ Good e → Tallied s count v (e .from .0 + e .length .0) (left - 1) (rankOf (take 7 (drop at s)) + 1)
+pub tally-good : (s : List ℕ) (count : ℕ) (v : Answer RecordCount) (at left least : ℕ) (e : Entry) → Tallied s count v at left least → 0 < left → itemAt least s at ≡ Good e → Tallied s count v (e .from .0 + e .length .0) (left - 1) (rankOf (take 7 (drop at s)) + 1)
 tally-good s count v at zero least e t h q = let z : ⊥ = omega arith in absurd z
 tally-good s count v at (suc left) least e t h q =
     let g = item-good least s at e q in
@@ -107,11 +107,11 @@ tally-good s count v at (suc left) least e t h q =
     }
 
 -- nothing may follow the last record
-pub tally-rest : (s : List ℕ) (count : ℕ) (v : Answer Records) (at least : ℕ) → Tallied s count v at 0 least → at < length s → refusedAt faultyFile (inOctets at) ≡ v
+pub tally-rest : (s : List ℕ) (count : ℕ) (v : Answer RecordCount) (at least : ℕ) → Tallied s count v at 0 least → at < length s → refusedAt faultyFile (inOctets at) ≡ v
 unfolding tallied readRecords
 tally-rest s count v at least t h = sym (t .due ∙ rw (drop-cons s at 0 h))
 
-pub tally-end : (s : List ℕ) (count : ℕ) (v : Answer Records) (at least : ℕ) → Tallied s count v at 0 least → length s ≤ at → given (inRecords count) ≡ v
+pub tally-end : (s : List ℕ) (count : ℕ) (v : Answer RecordCount) (at least : ℕ) → Tallied s count v at 0 least → length s ≤ at → given (inRecordCount count) ≡ v
 unfolding tallied readRecords
 tally-end s count v at least t h =
     let c : count - 0 + 0 ≡ count = omega arith in

@@ -16,9 +16,9 @@ use Rattle.swap.specs.declared.item.Item.{Item}
 use Rattle.swap.specs.declared.item.Item.the-variants.{Good, Bad}
 use Rattle.swap.specs.Record.{Record, Sound, Each, kindOf}
 use Rattle.swap.specs.Encoding.{recordOctets, recordsOctets, encode, Within}
-use Rattle.swap.specs.Reading.{Outcome, faulty, listed, readFile, inRecords}
+use Rattle.swap.specs.Reading.{FileListing, faulty, listed, readFile, inRecordCount}
 use Rattle.swap.specs.declared.cursor.Cursor.{Cursor}
-use Rattle.swap.specs.Cursor.{placedItem, itemAt, startOf, started, Standing, recordHere, fileEnd, nextAt, followed, adsOf, contentOf, cursorAfter, Led, begun, moved, Gives, GivesAll, ended, further}
+use Rattle.swap.specs.Cursor.{placedItem, itemAt, startOf, started, Standing, recordHere, fileEnd, nextAt, followed, adsOf, contentOf, cursorAfter, Led, begun, moved, GivesNext, GivesAll, ended, further}
 use Rattle.swap.proofs.RoundTrip.{read-encode}
 use Rattle.swap.proofs.Shown.{shown-good}
 use Rattle.swap.proofs.Encoded.{record-shown, ads-front, tab-next, kind-next, from-content, long-enough}
@@ -42,8 +42,8 @@ next-left s c e after h = go (c .left .0) refl (itemAt 0 s (c .at .0)) refl
         absurd y
     go (suc l) p (Good g) q =
         let m : c .left .0 ≡ 0 → ⊥ = λ w. omega arith in
-        let r : given (recordHere g (record { at = inOctets (g .from .0 + g .length .0); left = inRecords (c .left .0 - 1) })) ≡ given (recordHere e after) = rw (ne-eqb (c .left .0) 0 m, q) at h in
-        let a : record { at = inOctets (g .from .0 + g .length .0); left = inRecords (c .left .0 - 1) } ≡ after = cc in
+        let r : given (recordHere g (record { at = inOctets (g .from .0 + g .length .0); left = inRecordCount (c .left .0 - 1) })) ≡ given (recordHere e after) = rw (ne-eqb (c .left .0) 0 m, q) at h in
+        let a : record { at = inOctets (g .from .0 + g .length .0); left = inRecordCount (c .left .0 - 1) } ≡ after = cc in
         let d : c .left .0 - 1 ≡ after .left .0 = ap (λ (k : Cursor). k .left .0) a in
         omega arith
 
@@ -84,7 +84,7 @@ module _ (s : List ℕ) (at : ℕ) (r : Record) (rest : List ℕ) (sound : Sound
       let e : drop (at + 8 + length (encoded (length (r .content)))) s ≡ r .content ++ rest = rw (add-assoc, ← drop-drop) (from-content r rest (drop at s) (sound .address) is) in
       rw (le-leb (at + 8 + length (encoded (length (r .content))) + length (r .content)) (length s) room, e) (take-at (r .content) rest _ refl)
 
-  next-placed : (left : ℕ) → 0 < left → Gives s (record { at = inOctets at; left = inRecords left }) r (record { at = inOctets (at + 8 + length (encoded (length (r .content))) + length (r .content)); left = inRecords (left - 1) })
+  next-placed : (left : ℕ) → 0 < left → GivesNext s (record { at = inOctets at; left = inRecordCount left }) r (record { at = inOctets (at + 8 + length (encoded (length (r .content))) + length (r .content)); left = inRecordCount (left - 1) })
   unfolding nextAt followed
   next-placed left h =
       record {
@@ -105,7 +105,7 @@ after-octets ps r at sound =
     rw (octets-append ps (r ∷ []), append-nil) (simp length-append (omega (arith, sound .address)))
 
 -- each record in its turn
-next-in-turn : (ps : List Record) (r : Record) (qs : List Record) → Within (ps ++ r ∷ qs) → Gives (encode (ps ++ r ∷ qs)) (cursorAfter (length (ps ++ r ∷ qs)) ps) r (cursorAfter (length (ps ++ r ∷ qs)) (ps ++ r ∷ []))
+next-in-turn : (ps : List Record) (r : Record) (qs : List Record) → Within (ps ++ r ∷ qs) → GivesNext (encode (ps ++ r ∷ qs)) (cursorAfter (length (ps ++ r ∷ qs)) ps) r (cursorAfter (length (ps ++ r ∷ qs)) (ps ++ r ∷ []))
 unfolding cursorAfter
 next-in-turn ps r qs h =
     let E : List ℕ = encoded (length (ps ++ r ∷ qs)) in
@@ -135,7 +135,7 @@ pub started-gives-all : (s : List ℕ) (c : Cursor) → ((i : ℕ) → getD s i 
 unfolding startOf
 started-gives-all s c octets e = go (readFile s) refl e
   where
-    go : (out : Outcome) → readFile s ≡ out → started out ≡ given c → (rs : List Record) × (readFile s ≡ listed rs) × GivesAll s c rs
+    go : (out : FileListing) → readFile s ≡ out → started out ≡ given c → (rs : List Record) × (readFile s ≡ listed rs) × GivesAll s c rs
     go (faulty o) q r = let z : _≡_ {A = ℕ} 0 1 = cc in let y : ⊥ = omega arith in absurd y
     go (listed rs) q r =
         let p : cursorAfter (length rs) [] ≡ c = cc in

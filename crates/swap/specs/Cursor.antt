@@ -20,8 +20,8 @@ use Rattle.swap.specs.declared.cursor.Started.{Started}
 use Rattle.swap.specs.declared.cursor.Started.the-variants as started-as
 use Rattle.swap.specs.Record.{Record, kindOf}
 use Rattle.swap.specs.Encoding.{recordsOctets}
-use Rattle.swap.specs.Items.{Judged, bad, good, judged, judgedContent, lengthAt}
-use Rattle.swap.specs.Reading.{Outcome, faulty, listed, readFile, inRecords}
+use Rattle.swap.specs.Items.{Judged, bad, good, judged, judgedContent, lengthField}
+use Rattle.swap.specs.Reading.{FileListing, faulty, listed, readFile, inRecordCount}
 
 -- what was judged of the octets s from an offset on, with its place in the file
 unfoldable pub placedItem : ℕ → Kind → List ℕ → Judged → Item
@@ -34,18 +34,18 @@ itemAt least s at = placedItem at (kindOf (getD (drop at s) 7 0)) (drop at s) (j
 
 -- its length and data
 unfoldable pub contentAt : Kind → List ℕ → ℕ → Item
-contentAt kind s at = placedItem at kind (drop at s) (judgedContent kind (lengthAt kind (drop (at + 8) s)) (drop (at + 8) s))
+contentAt kind s at = placedItem at kind (drop at s) (judgedContent kind (lengthField kind (drop (at + 8) s)) (drop (at + 8) s))
 
 -- the cursor of a file with so many records, after the first of them
 unfoldable pub cursorAfter : ℕ → List Record → Cursor
-cursorAfter count passed = record { at = inOctets (length (encoded count) + length (recordsOctets passed)); left = inRecords (count - length passed) }
+cursorAfter count passed = record { at = inOctets (length (encoded count) + length (recordsOctets passed)); left = inRecordCount (count - length passed) }
 
 -- the number and values of each case
 abbrev pub answerOfStarted : Started → Answer Cursor
 answerOfStarted (started-as.First c) = given c
 answerOfStarted (started-as.Fault offset) = refusedAt faultyFile offset
 
-abbrev pub started : Outcome → Answer Cursor
+abbrev pub started : FileListing → Answer Cursor
 started (faulty o) = refusedAt faultyFile (inOctets o)
 started (listed rs) = given (cursorAfter (length rs) [])
 
@@ -66,7 +66,7 @@ answerOfNext next.NoRecord = refused faultyFile
 
 unfoldable pub followed : ℕ → Item → Answer Standing
 followed left (Bad o) = refused faultyFile
-followed left (Good e) = given (recordHere e (record { at = inOctets (e .from .0 + e .length .0); left = inRecords (left - 1) }))
+followed left (Good e) = given (recordHere e (record { at = inOctets (e .from .0 + e .length .0); left = inRecordCount (left - 1) }))
 
 -- the record that stands at a cursor, judged by its own items alone: 18 where none does
 unfoldable pub nextAt : List ℕ → Cursor → Answer Standing
@@ -92,7 +92,7 @@ pub record Shows (s : List ℕ) (e : Entry) (r : Record) : Type 0 where
   pub content : contentOf s e ≡ r .content
 
 -- at a cursor a file gives this record, and another cursor after it
-pub record Gives (s : List ℕ) (c : Cursor) (r : Record) (after : Cursor) : Type 0 where
+pub record GivesNext (s : List ℕ) (c : Cursor) (r : Record) (after : Cursor) : Type 0 where
   pub entry : Entry
   pub here : nextAt s c ≡ given (recordHere entry after)
   pub shows : Shows s entry r
@@ -100,4 +100,4 @@ pub record Gives (s : List ℕ) (c : Cursor) (r : Record) (after : Cursor) : Typ
 -- from a cursor on a file gives these records one after the other, and then the end
 pub data GivesAll (s : List ℕ) : Cursor → List Record → Type 0 where
   ended : {c : Cursor} → nextAt s c ≡ given fileEnd → GivesAll s c []
-  further : {c after : Cursor} {r : Record} {rs : List Record} → Gives s c r after → GivesAll s after rs → GivesAll s c (r ∷ rs)
+  further : {c after : Cursor} {r : Record} {rs : List Record} → GivesNext s c r after → GivesAll s after rs → GivesAll s c (r ∷ rs)

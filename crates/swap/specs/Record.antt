@@ -34,9 +34,9 @@ lengthLimit Raw = 116
 lengthLimit Label = 116
 
 -- 01, Swap file: "label data is well-formed"
-unfoldable pub acceptable : Kind → List ℕ → Bool
-acceptable Raw content = true
-acceptable Label content = wellFormed content
+unfoldable pub fitsKind : Kind → List ℕ → Bool
+fitsKind Raw content = true
+fitsKind Label content = wellFormed content
 
 -- 01, Swap file: "Count 0 to 4,096"
 abbrev pub countLimit : ℕ
@@ -66,7 +66,7 @@ pub record Sound (r : Record) : Type 0 where
   pub known : knownKind (r .kind) ≡ true
   pub short : length (r .content) ≤ lengthLimit (kindOf (r .kind))
   pub content-octets : (i : ℕ) → getD (r .content) i 0 < 256
-  pub text : acceptable (kindOf (r .kind)) (r .content) ≡ true
+  pub text : fitsKind (kindOf (r .kind)) (r .content) ≡ true
 
 -- a record of octets, with any octet for its kind and data of any length: what a call can be given
 pub record OfOctets (r : Record) : Type 0 where

@@ -1,7 +1,7 @@
 // The records of a file one by one.
 ghost use mathlib.Core.Path.{_≡_};
 ghost use Rattle.swap.specs.Cursor.{answerOfStarted, startOf, answerOfNext, nextAt, adsOf, contentOf};
-use crate::file::Records;
+use crate::file::RecordCount;
 use crate::file::Verdict;
 use crate::file::judge;
 use crate::item::Entry;
@@ -12,7 +12,7 @@ use numbers::Octets;
 // Where the next record stands, and how many are left from there on.
 pub struct Cursor {
     pub at: Octets,
-    pub left: Records,
+    pub left: RecordCount,
 }
 
 // What starting answers: the cursor of the first record, or the start of the first bad item of a faulty file.
@@ -68,7 +68,7 @@ impl Cursor {
                 let length = entry.length;
                 let after = Cursor {
                     at: Octets(from.0 + length.0),
-                    left: Records(left - 1),
+                    left: RecordCount(left - 1),
                 };
                 Next::Record(entry, after)
             }

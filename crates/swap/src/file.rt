@@ -2,7 +2,7 @@
 ghost use mathlib.Core.Path.{_≡_};
 ghost use Prim.Native.Nat.{_≤_};
 ghost use lib.ListN.{length, drop};
-ghost use Rattle.swap.specs.Reading.{answerOfVerdict, verdictOf, answered, readRecords};
+ghost use Rattle.swap.specs.Reading.{answerOfVerdict, verdictOf, answerOfListing, readRecords};
 use crate::item::Item;
 use crate::item::item_at;
 use crate::item::rank;
@@ -15,11 +15,11 @@ pub const FILE_LIMIT: usize = 65536;
 pub const COUNT_LIMIT: usize = 4096;
 
 // A count of records.
-pub struct Records(pub usize);
+pub struct RecordCount(pub usize);
 
 // What a file is: accepted with so many records, or faulty with the start of its first bad item.
 pub enum Verdict {
-    Accepted(Records),
+    Accepted(RecordCount),
     Fault(Octets),
 }
 
@@ -42,7 +42,7 @@ pub fn judge(file: &[u8]) -> Verdict
 // So many records from an offset on, and nothing after them.
 fn judge_records(file: &[u8], start: usize, count: usize) -> Verdict
     requires { ⌜ start ≤ length (now file) ⌝ }
-    ensures { λ r. ⌜ answerOfVerdict r ≡ answered (readRecords count 0 start (drop start (now (file .entry)))) ⌝ }
+    ensures { λ r. ⌜ answerOfVerdict r ≡ answerOfListing (readRecords count 0 start (drop start (now (file .entry)))) ⌝ }
 {
     let mut at = start;
     let mut left = count;
@@ -65,5 +65,5 @@ fn judge_records(file: &[u8], start: usize, count: usize) -> Verdict
     if at < file.len() {
         return Verdict::Fault(Octets(at));
     }
-    Verdict::Accepted(Records(count))
+    Verdict::Accepted(RecordCount(count))
 }

@@ -5,7 +5,7 @@ ghost use lib.ListN.{length, take};
 ghost use Rattle.swap.specs.Record.{rankOf};
 ghost use Rattle.swap.specs.Cursor.{itemAt, contentAt};
 use crate::kind::Kind;
-use crate::kind::is_acceptable;
+use crate::kind::fits_kind;
 use crate::kind::kind_of;
 use crate::kind::known;
 use crate::kind::length_limit;
@@ -84,7 +84,7 @@ fn content_at(file: &[u8], at: usize, kind: Kind) -> Item
         return Item::Bad(next);
     }
     let end = from + count;
-    if !is_acceptable(kind, &file[from..end]) {
+    if !fits_kind(kind, &file[from..end]) {
         return Item::Bad(next);
     }
     Item::Good(Entry {

@@ -1,7 +1,7 @@
 // The kinds of a record and what each asks of its data.
 ghost use mathlib.Core.Path.{_≡_};
 ghost use Rattle.label.specs.Utf8.{wellFormed};
-ghost use Rattle.swap.specs.Record.{kindOctet, knownKind, kindOf, lengthLimit, acceptable};
+ghost use Rattle.swap.specs.Record.{kindOctet, knownKind, kindOf, lengthLimit, fitsKind};
 use label::Text;
 use numbers::Octets;
 
@@ -46,8 +46,8 @@ pub fn length_limit(kind: Kind) -> Octets
 }
 
 // Whether data is well-formed, where its kind asks for that.
-pub fn is_acceptable(kind: Kind, content: &[u8]) -> bool
-    ensures { λ r. ⌜ r ≡ acceptable kind (now (content .entry)) ⌝ }
+pub fn fits_kind(kind: Kind, content: &[u8]) -> bool
+    ensures { λ r. ⌜ r ≡ fitsKind kind (now (content .entry)) ⌝ }
 {
     match kind {
         Kind::Raw => true,

@@ -8,7 +8,7 @@ pub mod station;
 pub use cursor::Cursor;
 pub use cursor::Next;
 pub use cursor::Started;
-pub use file::Records;
+pub use file::RecordCount;
 pub use file::Verdict;
 pub use file::judge;
 pub use item::Entry;

@@ -6,7 +6,7 @@ use mathlib.Core.List.{List}
 use Rattle.numbers.specs.declared.Octets.{Octets}
 use Rattle.numbers.specs.Answer.{Answer, given, refused, refusedAt}
 use Rattle.numbers.specs.Table.{none, faultyFile}
-use Rattle.swap.specs.declared.file.Records.{Records}
+use Rattle.swap.specs.declared.file.RecordCount.{RecordCount}
 use Rattle.swap.specs.declared.item.Entry.{Entry}
 use Rattle.swap.specs.declared.cursor.Cursor.{Cursor}
 use Rattle.swap.specs.declared.cursor.Next.{Next}
@@ -19,8 +19,8 @@ use Rattle.swap_list.specs.declared.Added.the-variants.{Kept, Fault}
 use Rattle.swap_list.specs.Adding.{Outcome, answerOfAdded}
 use Rattle.swap_exports.specs.Reports.{judgedAs, startedAs, Shown, nothing, shown, writtenAs, countsAs, addedAs}
 
-module _ (a : Answer Records) (records offset : ℕ) where
-  pub judged-given : (c : Records) → given c ≡ a → record { number = none; records = c .0; offset = offset } ≡ judgedAs a records offset
+module _ (a : Answer RecordCount) (records offset : ℕ) where
+  pub judged-given : (c : RecordCount) → given c ≡ a → record { number = none; records = c .0; offset = offset } ≡ judgedAs a records offset
   unfolding judgedAs
   judged-given c e = rw (← e)
 

@@ -4,7 +4,7 @@ use mathlib.Core.Bool.{Bool, true, false}
 use mathlib.Core.List.{List}
 use Rattle.numbers.specs.Answer.{Answer, given, refused, refusedAt}
 use Rattle.numbers.specs.Table.{none}
-use Rattle.swap.specs.declared.file.Records.{Records}
+use Rattle.swap.specs.declared.file.RecordCount.{RecordCount}
 use Rattle.swap.specs.Record.{kindOctet}
 use Rattle.swap.specs.declared.cursor.Cursor.{Cursor}
 use Rattle.swap.specs.Cursor.{Standing, recordHere, fileEnd, adsOf}
@@ -18,7 +18,7 @@ pub record Verdict : Type 0 where
   pub offset : ℕ
 
 -- 0 with the count of records, or 18 with the offset; the other cell as it was
-unfoldable pub judgedAs : Answer Records → ℕ → ℕ → Verdict
+unfoldable pub judgedAs : Answer RecordCount → ℕ → ℕ → Verdict
 judgedAs (given count) records offset = record { number = none; records = count .0; offset = offset }
 judgedAs (refused n) records offset = record { number = n; records = records; offset = offset }
 judgedAs (refusedAt n o) records offset = record { number = n; records = records; offset = o .0 }

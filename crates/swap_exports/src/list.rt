@@ -1,12 +1,12 @@
 // Adding a record to a list that the writer takes.
 ghost use mathlib.Core.Path.{_≡_};
 ghost use Rattle.numbers.specs.Counts.{inOctets};
-ghost use Rattle.swap.specs.Reading.{inRecords};
+ghost use Rattle.swap.specs.Reading.{inRecordCount};
 ghost use Rattle.swap_list.specs.Adding.{recordOf, adding};
 ghost use Rattle.swap_exports.specs.Reports.{addedAs};
 use numbers::Octets;
 use numbers::table;
-use swap::Records;
+use swap::RecordCount;
 use swap_list::Added;
 use swap_list::CONTENTS_SIZE;
 use swap_list::HEADS_SIZE;
@@ -25,10 +25,10 @@ pub extern "C" fn propolisk_swap_add(
     content: &[u8],
     offset: &mut usize,
 ) -> u8
-    ensures { λ r. ⌜ record { number = r; heads = now (heads .exit); contents = now (contents .exit); records = now (records .exit); octets = now (octets .exit); offset = now (offset .exit) } ≡ addedAs (adding (record { records = inRecords (now (records .entry)); octets = inOctets (now (octets .entry)) }) (recordOf (now (ads .entry)) tab kind (now (content .entry))) (now (heads .entry)) (now (contents .entry))) (now (records .entry)) (now (octets .entry)) (now (offset .entry)) ⌝ }
+    ensures { λ r. ⌜ record { number = r; heads = now (heads .exit); contents = now (contents .exit); records = now (records .exit); octets = now (octets .exit); offset = now (offset .exit) } ≡ addedAs (adding (record { records = inRecordCount (now (records .entry)); octets = inOctets (now (octets .entry)) }) (recordOf (now (ads .entry)) tab kind (now (content .entry))) (now (heads .entry)) (now (contents .entry))) (now (records .entry)) (now (octets .entry)) (now (offset .entry)) ⌝ }
 {
     let list = RecordList {
-        records: Records(*records),
+        records: RecordCount(*records),
         octets: Octets(*octets),
     };
     let its_ads = *ads;

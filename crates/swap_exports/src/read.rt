@@ -1,7 +1,7 @@
 // Reading a file.
 ghost use mathlib.Core.Path.{_≡_};
 ghost use Rattle.numbers.specs.Counts.{inOctets};
-ghost use Rattle.swap.specs.Reading.{verdictOf, inRecords};
+ghost use Rattle.swap.specs.Reading.{verdictOf, inRecordCount};
 ghost use Rattle.swap.specs.Cursor.{startOf, answerOfNext, nextAt};
 ghost use Rattle.swap.specs.Station.{nextFor};
 ghost use Rattle.swap_exports.specs.Reports.{judgedAs, startedAs, shown};
@@ -9,7 +9,7 @@ use numbers::Octets;
 use numbers::table;
 use swap::Cursor;
 use swap::Next;
-use swap::Records;
+use swap::RecordCount;
 use swap::Started;
 use swap::Verdict;
 
@@ -70,11 +70,11 @@ pub extern "C" fn propolisk_swap_next(
     from: &mut usize,
     length: &mut usize,
 ) -> u8
-    ensures { λ r. ⌜ record { number = r; at = now (at .exit); left = now (left .exit); found = now (found .exit); ads = now (ads .exit); tab = now (tab .exit); kind = now (kind .exit); from = now (from .exit); length = now (length .exit) } ≡ shown (nextAt (now (file .entry)) (record { at = inOctets (now (at .entry)); left = inRecords (now (left .entry)) })) (now (file .entry)) (record { number = 0; at = now (at .entry); left = now (left .entry); found = now (found .entry); ads = now (ads .entry); tab = now (tab .entry); kind = now (kind .entry); from = now (from .entry); length = now (length .entry) }) ⌝ }
+    ensures { λ r. ⌜ record { number = r; at = now (at .exit); left = now (left .exit); found = now (found .exit); ads = now (ads .exit); tab = now (tab .exit); kind = now (kind .exit); from = now (from .exit); length = now (length .exit) } ≡ shown (nextAt (now (file .entry)) (record { at = inOctets (now (at .entry)); left = inRecordCount (now (left .entry)) })) (now (file .entry)) (record { number = 0; at = now (at .entry); left = now (left .entry); found = now (found .entry); ads = now (ads .entry); tab = now (tab .entry); kind = now (kind .entry); from = now (from .entry); length = now (length .entry) }) ⌝ }
 {
     let here = Cursor {
         at: Octets(*at),
-        left: Records(*left),
+        left: RecordCount(*left),
     };
     let next = here.next(file);
     show(next, file, at, left, found, ads, tab, kind, from, length)
@@ -94,11 +94,11 @@ pub extern "C" fn propolisk_swap_next_for(
     from: &mut usize,
     length: &mut usize,
 ) -> u8
-    ensures { λ r. ⌜ record { number = r; at = now (at .exit); left = now (left .exit); found = now (found .exit); ads = now (ads .exit); tab = now (tab .exit); kind = now (kind .exit); from = now (from .exit); length = now (length .exit) } ≡ shown (nextFor (now (station .entry)) (now (file .entry)) (record { at = inOctets (now (at .entry)); left = inRecords (now (left .entry)) })) (now (file .entry)) (record { number = 0; at = now (at .entry); left = now (left .entry); found = now (found .entry); ads = now (ads .entry); tab = now (tab .entry); kind = now (kind .entry); from = now (from .entry); length = now (length .entry) }) ⌝ }
+    ensures { λ r. ⌜ record { number = r; at = now (at .exit); left = now (left .exit); found = now (found .exit); ads = now (ads .exit); tab = now (tab .exit); kind = now (kind .exit); from = now (from .exit); length = now (length .exit) } ≡ shown (nextFor (now (station .entry)) (now (file .entry)) (record { at = inOctets (now (at .entry)); left = inRecordCount (now (left .entry)) })) (now (file .entry)) (record { number = 0; at = now (at .entry); left = now (left .entry); found = now (found .entry); ads = now (ads .entry); tab = now (tab .entry); kind = now (kind .entry); from = now (from .entry); length = now (length .entry) }) ⌝ }
 {
     let here = Cursor {
         at: Octets(*at),
-        left: Records(*left),
+        left: RecordCount(*left),
     };
     let its = *station;
     let next = swap::next_for(here, file, its);

@@ -12,7 +12,7 @@ use Rattle.number.specs.Groups.{encoded}
 use Rattle.number.proofs.Laying.{width-one, width-two}
 use Rattle.swap.specs.Record.{Record, Sound, OfOctets, Each, Rising, rank}
 use Rattle.swap.specs.Encoding.{recordsOctets, encode, Within}
-use Rattle.swap.specs.Reading.{verdictOf, inRecords}
+use Rattle.swap.specs.Reading.{verdictOf, inRecordCount}
 use Rattle.swap.proofs.Encoded.{all-octets}
 use Rattle.swap.proofs.RoundTrip.{encoding-accepted, accepted-encoding}
 use Rattle.swap_list.specs.Ordered.{placed}
@@ -135,7 +135,7 @@ order-kept (r ∷ qs) ps h =
     rw (placed-last ps r qs 0 h) (order-kept qs (ps ++ r ∷ []) (rw e h) ∙ e)
 
 -- the records of an accepted file, added one after the other, make the same octets
-pub file-again : (heads contents s : List ℕ) (n : ℕ) → ((i : ℕ) → getD s i 0 < 256) → verdictOf s ≡ given (inRecords n) → (rs : List Record) × (s ≡ encode rs) × Holds (afterAdds (begun heads contents) rs) rs
+pub file-again : (heads contents s : List ℕ) (n : ℕ) → ((i : ℕ) → getD s i 0 < 256) → verdictOf s ≡ given (inRecordCount n) → (rs : List Record) × (s ≡ encode rs) × Holds (afterAdds (begun heads contents) rs) rs
 file-again heads contents s n b e =
     let f = accepted-encoding s n b e in
     let k : inOrder [] (f .0) ≡ f .0 = order-kept (f .0) [] (f .2 .rising) in

@@ -9,10 +9,10 @@ use Rattle.numbers.specs.Answer.{Answer, given, refused, refusedAt}
 use Rattle.octets.specs.Splice.{fronted}
 use Rattle.octets.proofs.Splice.{take-fronted}
 use Rattle.number.specs.Groups.{encoded, groups}
-use Rattle.swap.specs.declared.file.Records.{Records}
+use Rattle.swap.specs.declared.file.RecordCount.{RecordCount}
 use Rattle.swap.specs.Record.{Record, OfOctets, Each, Rising}
 use Rattle.swap.specs.Encoding.{recordsOctets, encode}
-use Rattle.swap.specs.Reading.{verdictOf, inRecords}
+use Rattle.swap.specs.Reading.{verdictOf, inRecordCount}
 use Rattle.swap.proofs.Encoded.{all-octets}
 use Rattle.swap.proofs.RoundTrip.{accepted-own}
 use Rattle.swap_write.specs.Heads.{headSize, headsOf, contentsOf}
@@ -34,13 +34,13 @@ holds-none heads contents =
     }
 
 -- records taken over by the arrays
-holds-taken : (rs : List Record) (c : Records) (heads contents : List ℕ) → Each OfOctets rs → verdictOf (encode rs) ≡ given c → Holds (record { list = record { records = c; octets = inOctets (length (contentsOf rs)) }; heads = fronted (headsOf rs) heads; contents = fronted (contentsOf rs) contents }) rs
+holds-taken : (rs : List Record) (c : RecordCount) (heads contents : List ℕ) → Each OfOctets rs → verdictOf (encode rs) ≡ given c → Holds (record { list = record { records = c; octets = inOctets (length (contentsOf rs)) }; heads = fronted (headsOf rs) heads; contents = fronted (contentsOf rs) contents }) rs
 holds-taken rs c heads contents o v =
     let a = accepted-own rs c o v in
     let n : headSize * c .0 ≡ length (headsOf rs) = omega (arith, heads-long o, a .1) in
     let h : take (headSize * c .0) (fronted (headsOf rs) heads) ≡ headsOf rs = rw n (take-fronted (headsOf rs) heads) in
     let d : take (length (contentsOf rs)) (fronted (contentsOf rs) contents) ≡ contentsOf rs = take-fronted (contentsOf rs) contents in
-    let i : inRecords (length rs) ≡ c = ap inRecords (a .1) in
+    let i : inRecordCount (length rs) ≡ c = ap inRecordCount (a .1) in
     record {
       within = a .0;
       counts = rw i;
@@ -58,7 +58,7 @@ module _ (l : Lent) (rs : List Record) (h : Holds l rs) (r : Record) (o : OfOcte
   unfolding afterAdd kept judgedAdding
   holds-next = go (verdictOf (encode (placed r rs))) refl
     where
-      go : (v : Answer Records) → verdictOf (encode (placed r rs)) ≡ v → Holds (afterAdd l r) (kept rs r)
+      go : (v : Answer RecordCount) → verdictOf (encode (placed r rs)) ≡ v → Holds (afterAdd l r) (kept rs r)
       go (given c) q = rw (next-add, q) (holds-taken (placed r rs) c (l .heads) (l .contents) (placed-octets r o (all-octets (h .within .sound))) q)
       go (refused n) q = rw (next-add, q) h
       go (refusedAt n e) q = rw (next-add, q) h
@@ -68,7 +68,7 @@ module _ (l : Lent) (rs : List Record) (h : Holds l rs) (r : Record) (o : OfOcte
   unfolding kept judgedAdding inOrder
   kept-first qs = go (verdictOf (encode (placed r rs))) refl
     where
-      go : (v : Answer Records) → verdictOf (encode (placed r rs)) ≡ v → inOrder (kept rs r) qs ≡ inOrder rs (acceptedBy (adding (l .list) r (l .heads) (l .contents) .answer) r qs)
+      go : (v : Answer RecordCount) → verdictOf (encode (placed r rs)) ≡ v → inOrder (kept rs r) qs ≡ inOrder rs (acceptedBy (adding (l .list) r (l .heads) (l .contents) .answer) r qs)
       go (given c) q = rw (next-add, q)
       go (refused n) q = rw (next-add, q)
       go (refusedAt n e) q = rw (next-add, q)

@@ -9,7 +9,7 @@ use Rattle.numbers.specs.Counts.{inOctets}
 use Rattle.numbers.specs.Answer.{given, refusedAt}
 use Rattle.octets.specs.Splice.{spliced}
 use Rattle.octets.proofs.Splice.{spliced-front}
-use Rattle.swap.specs.declared.file.Records.{Records}
+use Rattle.swap.specs.declared.file.RecordCount.{RecordCount}
 use Rattle.swap.specs.Record.{rankOf}
 use Rattle.swap.specs.Reading.{verdictOf}
 use Rattle.swap_write.specs.Heads.{fileOf}
@@ -22,7 +22,7 @@ module _ (more all heads contents : List ℕ) where
   unfolding takenOver judgedAdding
   taken-refused n o e = rw (← e)
 
-  pub taken-given : (c : Records) (hs cs : List ℕ) → given c ≡ verdictOf (fileOf more all) → ((i : ℕ) → getD more i 0 < 256) → length heads ≡ 40960 → length more % 10 ≡ 0 → length all ≤ length contents → hs ≡ spliced heads 0 more → cs ≡ spliced contents 0 all → record { answer = given (record { records = c; octets = inOctets (length all) }); heads = hs; contents = cs } ≡ takenOver more all heads contents
+  pub taken-given : (c : RecordCount) (hs cs : List ℕ) → given c ≡ verdictOf (fileOf more all) → ((i : ℕ) → getD more i 0 < 256) → length heads ≡ 40960 → length more % 10 ≡ 0 → length all ≤ length contents → hs ≡ spliced heads 0 more → cs ≡ spliced contents 0 all → record { answer = given (record { records = c; octets = inOctets (length all) }); heads = hs; contents = cs } ≡ takenOver more all heads contents
   unfolding takenOver judgedAdding
   taken-given c hs cs e octets h m d p q =
       let few : length more / 10 ≤ 4096 = accepted-body more all c (sym e) .0 in

@@ -11,7 +11,7 @@ use Rattle.numbers.specs.Counts.{inOctets}
 use Rattle.numbers.specs.Answer.{Answer, given, refused, refusedAt}
 use Rattle.octets.proofs.Splice.{take-fronted}
 use Rattle.octets.proofs.Below.{Below, below-append, below-take, below-drop}
-use Rattle.swap.specs.declared.file.Records.{Records}
+use Rattle.swap.specs.declared.file.RecordCount.{RecordCount}
 use Rattle.swap.specs.Record.{Record, rankOf}
 use Rattle.swap.specs.Reading.{verdictOf}
 use Rattle.swap_write.specs.Heads.{headSize, headOf, fileOf}
@@ -41,7 +41,7 @@ taken : (hs cs heads contents : List ℕ) (next : RecordList) → Below 256 hs �
 unfolding takenOver judgedAdding
 taken hs cs heads contents next b e = go (verdictOf (fileOf hs cs)) refl
   where
-    go : (v : Answer Records) → verdictOf (fileOf hs cs) ≡ v → verdictOf (fileOf (headsOfList next (takenOver hs cs heads contents)) (contentsOfList next (takenOver hs cs heads contents))) ≡ given (next .records)
+    go : (v : Answer RecordCount) → verdictOf (fileOf hs cs) ≡ v → verdictOf (fileOf (headsOfList next (takenOver hs cs heads contents)) (contentsOfList next (takenOver hs cs heads contents))) ≡ given (next .records)
     go (refused n) q =
         let r : refused n ≡ given next = rw q at e in
         let z : _≡_ {A = ℕ} 0 1 = cc in
@@ -67,7 +67,7 @@ kept-accepted list next r heads contents b h e =
     taken (headsWith (headOf r) hs) (contentsWith (headOf r) (r .content) hs (take (list .octets .0) contents)) heads contents next (below-with (headOf r) hs h (below-take 256 (lit< tt) n heads b)) e
 
 -- an accepted file is written or has no room
-never-faulty : (hs cs buffer : List ℕ) (c : Records) (n : ℕ) (o : Octets) → verdictOf (fileOf hs cs) ≡ given c → writing hs cs buffer .answer ≡ refusedAt n o → ⊥
+never-faulty : (hs cs buffer : List ℕ) (c : RecordCount) (n : ℕ) (o : Octets) → verdictOf (fileOf hs cs) ≡ given c → writing hs cs buffer .answer ≡ refusedAt n o → ⊥
 unfolding writing judgedWriting laid
 never-faulty hs cs buffer c n o v e = go (leb (length (fileOf hs cs)) (length buffer)) refl (rw v at e)
   where

@@ -8,9 +8,9 @@ use Rattle.numbers.specs.Counts.{inOctets}
 use Rattle.numbers.specs.Answer.{Answer, given, refused, refusedAt}
 use Rattle.octets.specs.Splice.{fronted}
 use Rattle.numbers.specs.Table.{faultyFile}
-use Rattle.swap.specs.declared.file.Records.{Records}
+use Rattle.swap.specs.declared.file.RecordCount.{RecordCount}
 use Rattle.swap.specs.Record.{Record, rankOf, countLimit, fileLimit}
-use Rattle.swap.specs.Reading.{verdictOf, inRecords}
+use Rattle.swap.specs.Reading.{verdictOf, inRecordCount}
 use Rattle.swap_write.specs.Heads.{headSize, headOf, headLength, fileOf}
 use Rattle.swap_list.specs.declared.RecordList.{RecordList}
 use Rattle.swap_list.specs.declared.Added.{Added}
@@ -25,7 +25,7 @@ abbrev pub contentsSize : ℕ
 contentsSize = fileLimit
 
 abbrev pub empty : RecordList
-empty = record { records = inRecords 0; octets = inOctets 0 }
+empty = record { records = inRecordCount 0; octets = inOctets 0 }
 
 -- the record that a call gives, its kind by the octet
 abbrev pub recordOf : List ℕ → ℕ → ℕ → List ℕ → Record
@@ -67,7 +67,7 @@ answerOfAdded (Kept list) = given list
 answerOfAdded (Fault offset) = refusedAt faultyFile offset
 
 -- new heads and contents go to the front of the arrays where their file is accepted; else both arrays stay
-unfoldable pub judgedAdding : Answer Records → List ℕ → List ℕ → List ℕ → List ℕ → Outcome
+unfoldable pub judgedAdding : Answer RecordCount → List ℕ → List ℕ → List ℕ → List ℕ → Outcome
 judgedAdding (given count) newHeads newContents heads contents =
     record { answer = given (record { records = count; octets = inOctets (length newContents) }); heads = fronted newHeads heads; contents = fronted newContents contents }
 judgedAdding (refused n) newHeads newContents heads contents = record { answer = refused n; heads = heads; contents = contents }

@@ -5,10 +5,10 @@ use mathlib.Core.List.{List, [], _∷_}
 use lib.ListN.{length, take}
 use Rattle.numbers.specs.Counts.{inOctets}
 use Rattle.numbers.specs.Answer.{Answer, given, refused, refusedAt}
-use Rattle.swap.specs.declared.file.Records.{Records}
+use Rattle.swap.specs.declared.file.RecordCount.{RecordCount}
 use Rattle.swap.specs.Record.{Record}
 use Rattle.swap.specs.Encoding.{encode, Within}
-use Rattle.swap.specs.Reading.{verdictOf, inRecords}
+use Rattle.swap.specs.Reading.{verdictOf, inRecordCount}
 use Rattle.swap_write.specs.Heads.{headSize, headsOf, contentsOf, fileOf}
 use Rattle.swap_list.specs.declared.RecordList.{RecordList}
 use Rattle.swap_list.specs.Adding.{empty, adding}
@@ -40,7 +40,7 @@ afterAdds l [] = l
 afterAdds l (r ∷ rs) = afterAdds (afterAdd l r) rs
 
 -- 01, Swap file: records that would make a faulty file are refused; else the record is kept, in its place
-abbrev pub keptBy : Answer Records → Record → List Record → List Record
+abbrev pub keptBy : Answer RecordCount → Record → List Record → List Record
 keptBy (given count) r rs = placed r rs
 keptBy (refused n) r rs = rs
 keptBy (refusedAt n offset) r rs = rs
@@ -63,7 +63,7 @@ contentsIn l = take (l .list .octets .0) (l .contents)
 -- the list holds exactly these records: rising by ADS then TAB and within all other rules, each with its own kind and data, and the writer's file for it is their encoding
 pub record Holds (l : Lent) (rs : List Record) : Type 0 where
   pub within : Within rs
-  pub counts : l .list ≡ record { records = inRecords (length rs); octets = inOctets (length (contentsOf rs)) }
+  pub counts : l .list ≡ record { records = inRecordCount (length rs); octets = inOctets (length (contentsOf rs)) }
   pub heads : headsIn l ≡ headsOf rs
   pub contents : contentsIn l ≡ contentsOf rs
   pub file : fileOf (headsIn l) (contentsIn l) ≡ encode rs

@@ -9,7 +9,7 @@ mod place;
 
 use numbers::Octets;
 use swap::Kind;
-use swap::Records;
+use swap::RecordCount;
 use swap::file::COUNT_LIMIT;
 use swap::file::FILE_LIMIT;
 use swap_write::size::HEAD_SIZE;
@@ -21,7 +21,7 @@ pub const CONTENTS_SIZE: usize = 65536;
 
 // How many records the list has, and how many octets of data, at the front of the two arrays that are lent with it.
 pub struct RecordList {
-    pub records: Records,
+    pub records: RecordCount,
     pub octets: Octets,
 }
 
@@ -36,7 +36,7 @@ impl RecordList {
         ensures { λ r. ⌜ r ≡ empty ⌝ }
     {
         RecordList {
-            records: Records(0),
+            records: RecordCount(0),
             octets: Octets(0),
         }
     }

@@ -8,12 +8,12 @@ use Rattle.label.specs.Utf8.{table, begins, rowAt, sequenceLength, sequencesFro
 use Rattle.label.specs.Character.{grouped, characters}
 use Rattle.label.specs.Fitting.{judged, measured}
 use Rattle.label.proofs.Laws.{measured-well-formed}
-use Rattle.number.specs.Groups.{groups, joined, decoded, bounded, frontOf}
+use Rattle.number.specs.Groups.{groups, joined, decoded, bounded, frontNumber}
 use Rattle.swap.specs.declared.item.Entry.{Entry}
 use Rattle.swap.specs.declared.kind.Kind.the-variants.{Label}
-use Rattle.swap.specs.Record.{Record, knownKind, kindOf, lengthLimit, acceptable, numberFrom, rankOf}
+use Rattle.swap.specs.Record.{Record, knownKind, kindOf, lengthLimit, fitsKind, numberFrom, rankOf}
 use Rattle.swap.specs.Items as items
-use Rattle.swap.specs.Items.{goodAddress, goodKind, limited, lengthAt, goodContent, judgedContent, recordAt}
+use Rattle.swap.specs.Items.{goodAddress, goodKind, limited, lengthField, goodContent, judgedContent, frontRecord}
 use Rattle.swap.specs.Reading.{preceded, readRecords, readCounted, readFile}
 use Rattle.swap.specs.Cursor.{adsOf, contentOf, Shows}
 use Rattle.text.specs.Text.{digitOf, hexText, decimal, decimalText}
@@ -28,12 +28,12 @@ example =
 
 -- 01, Swap file: "it prints exactly"
 pub example-listed : listing (readFile example) ≡ quoted "records 2\n112233445566 0A label octets 4 characters 3\n112233445566 0B raw octets 2\n"
-unfolding listing countLine recordLines recordLine nameText kindText charactersText hexText digitOf decimalText decimal readFile readCounted readRecords preceded items.judged goodAddress goodKind lengthAt limited goodContent judgedContent recordAt knownKind kindOf lengthLimit acceptable rankOf numberFrom frontOf bounded decoded joined groups measured judged characters grouped wellFormed wellFormedOctets sequences sequencesFrom sequenceLength rowAt begins table flatten
+unfolding listing countLine recordLines recordLine nameText kindText charactersText hexText digitOf decimalText decimal readFile readCounted readRecords preceded items.judged goodAddress goodKind lengthField limited goodContent judgedContent frontRecord knownKind kindOf lengthLimit fitsKind rankOf numberFrom frontNumber bounded decoded joined groups measured judged characters grouped wellFormed wellFormedOctets sequences sequencesFrom sequenceLength rowAt begins table flatten
 example-listed = refl
 
 -- a file whose count is in a longer form
 pub example-refused : listing (readFile (0x81 ∷ 0x00 ∷ [])) ≡ quoted "refused 18 at 0\n"
-unfolding listing refusalLine decimalText decimal readFile readCounted limited frontOf bounded decoded joined
+unfolding listing refusalLine decimalText decimal readFile readCounted limited frontNumber bounded decoded joined
 example-refused = refl
 
 -- the line of an entry is that of the record which the entry stands for

@@ -11,7 +11,7 @@ use Rattle.octets.proofs.Parts.{part-front}
 use Rattle.text.proofs.Writing.{Written, after-fits}
 use Rattle.numbers.specs.declared.Octets.{Octets}
 use Rattle.numbers.specs.Counts.{inOctets}
-use Rattle.text.specs.Text.{after}
+use Rattle.text.specs.Text.{offsetAfter}
 use Rattle.text.specs.Quoted.{quoted}
 use Rattle.swap_text.specs.Lines.{lineOf}
 
@@ -31,5 +31,5 @@ made m t r b room w =
     (e, rw (e, w .1, spliced-front m t room) (take-fronted t m), rw (w .1) (length-spliced m 0 t fits))
 
 -- what is taken over of the array is that text, with its line feed
-pub taken-over : (buffer : List ℕ) (at : ℕ) (part text : List ℕ) (r : Octets) (after-it : List ℕ) → (r ≡ inOctets (after buffer at (lineOf part))) × (after-it ≡ spliced buffer at (lineOf part)) → part ≡ text → (r ≡ inOctets (after buffer at (lineOf text))) × (after-it ≡ spliced buffer at (lineOf text))
+pub taken-over : (buffer : List ℕ) (at : ℕ) (part text : List ℕ) (r : Octets) (after-it : List ℕ) → (r ≡ inOctets (offsetAfter buffer at (lineOf part))) × (after-it ≡ spliced buffer at (lineOf part)) → part ≡ text → (r ≡ inOctets (offsetAfter buffer at (lineOf text))) × (after-it ≡ spliced buffer at (lineOf text))
 taken-over buffer at part text r after-it p e = rw e at p

@@ -10,7 +10,7 @@ use Rattle.label.specs.Fitting.{measured}
 use Rattle.swap.specs.declared.kind.Kind.{Kind}
 use Rattle.swap.specs.declared.kind.Kind.the-variants.{Raw, Label}
 use Rattle.swap.specs.Record.{Record, kindOf}
-use Rattle.swap.specs.Reading.{Outcome, faulty, listed}
+use Rattle.swap.specs.Reading.{FileListing, faulty, listed}
 
 abbrev pub lineOf : List ℕ → List ℕ
 lineOf text = text ++ quoted "\n"
@@ -50,6 +50,6 @@ recordLines [] = []
 recordLines (r ∷ rs) = recordLine (r .ads) (r .tab) (kindOf (r .kind)) (r .content) ++ recordLines rs
 
 -- all that `swaplist` prints, by what reading the file comes to
-unfoldable pub listing : Outcome → List ℕ
+unfoldable pub listing : FileListing → List ℕ
 listing (faulty o) = refusalLine o
 listing (listed rs) = countLine (length rs) ++ recordLines rs

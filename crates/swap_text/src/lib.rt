@@ -5,12 +5,12 @@ ghost use Prim.Native.Nat.{_+_, _≤_};
 ghost use lib.ListN.{length, take};
 ghost use Rattle.numbers.specs.Counts.{inOctets};
 ghost use Rattle.octets.specs.Splice.{spliced};
-ghost use Rattle.text.specs.Text.{after};
+ghost use Rattle.text.specs.Text.{offsetAfter};
 ghost use Rattle.swap_text.specs.Lines.{lineOf, countLine, refusalLine, nameText, kindText, recordLine};
 use label::Text;
 use numbers::Octets;
 use swap::Kind;
-use swap::Records;
+use swap::RecordCount;
 use text::put_hex;
 use text::put_number;
 use text::put_words;
@@ -19,8 +19,8 @@ use text::put_words;
 pub const LONGEST_LINE: usize = 82;
 
 // The count of a file's records.
-pub fn put_count(buffer: &mut [u8], at: Octets, records: Records) -> Octets
-    ensures { λ r. ⌜ (r ≡ inOctets (after (now (buffer .entry)) (at .0) (countLine (records .0)))) × (now (buffer .exit) ≡ spliced (now (buffer .entry)) (at .0) (countLine (records .0))) ⌝ }
+pub fn put_count(buffer: &mut [u8], at: Octets, records: RecordCount) -> Octets
+    ensures { λ r. ⌜ (r ≡ inOctets (offsetAfter (now (buffer .entry)) (at .0) (countLine (records .0)))) × (now (buffer .exit) ≡ spliced (now (buffer .entry)) (at .0) (countLine (records .0))) ⌝ }
 {
     let mut line = [0u8; LONGEST_LINE];
     let end = put_number(&mut line, Octets(0), b"records ", records.0 as u64);
@@ -29,7 +29,7 @@ pub fn put_count(buffer: &mut [u8], at: Octets, records: Records) -> Octets
 
 // The start of the first bad item of a file that is refused.
 pub fn put_refusal(buffer: &mut [u8], at: Octets, offset: Octets) -> Octets
-    ensures { λ r. ⌜ (r ≡ inOctets (after (now (buffer .entry)) (at .0) (refusalLine (offset .0)))) × (now (buffer .exit) ≡ spliced (now (buffer .entry)) (at .0) (refusalLine (offset .0))) ⌝ }
+    ensures { λ r. ⌜ (r ≡ inOctets (offsetAfter (now (buffer .entry)) (at .0) (refusalLine (offset .0)))) × (now (buffer .exit) ≡ spliced (now (buffer .entry)) (at .0) (refusalLine (offset .0))) ⌝ }
 {
     let mut line = [0u8; LONGEST_LINE];
     let end = put_number(&mut line, Octets(0), b"refused 18 at ", offset.0 as u64);
@@ -45,7 +45,7 @@ pub fn put_record(
     kind: Kind,
     content: &[u8],
 ) -> Octets
-    ensures { λ r. ⌜ (r ≡ inOctets (after (now (buffer .entry)) (at .0) (recordLine ads tab kind (now (content .entry))))) × (now (buffer .exit) ≡ spliced (now (buffer .entry)) (at .0) (recordLine ads tab kind (now (content .entry)))) ⌝ }
+    ensures { λ r. ⌜ (r ≡ inOctets (offsetAfter (now (buffer .entry)) (at .0) (recordLine ads tab kind (now (content .entry))))) × (now (buffer .exit) ≡ spliced (now (buffer .entry)) (at .0) (recordLine ads tab kind (now (content .entry)))) ⌝ }
 {
     let mut line = [0u8; LONGEST_LINE];
     let kind_at = put_name(&mut line, ads, tab);
@@ -56,7 +56,7 @@ pub fn put_record(
 // What stands in a line up to an offset, with a line feed after it.
 fn put_line(buffer: &mut [u8], at: Octets, line: &mut [u8], end: Octets) -> Octets
     requires { ⌜ end .0 + 1 ≤ length (now line) ⌝ }
-    ensures { λ r. ⌜ (r ≡ inOctets (after (now (buffer .entry)) (at .0) (lineOf (take (end .0) (now (line .entry)))))) × (now (buffer .exit) ≡ spliced (now (buffer .entry)) (at .0) (lineOf (take (end .0) (now (line .entry))))) ⌝ }
+    ensures { λ r. ⌜ (r ≡ inOctets (offsetAfter (now (buffer .entry)) (at .0) (lineOf (take (end .0) (now (line .entry)))))) × (now (buffer .exit) ≡ spliced (now (buffer .entry)) (at .0) (lineOf (take (end .0) (now (line .entry))))) ⌝ }
 {
     let length = put_words(line, end, b"\n");
     put_words(buffer, at, octets::part(line, 0, length.0))
@@ -65,7 +65,7 @@ fn put_line(buffer: &mut [u8], at: Octets, line: &mut [u8], end: Octets) -> Octe
 // ADS and TAB, at the front of a line.
 fn put_name(line: &mut [u8], ads: [u8; 6], tab: u8) -> Octets
     requires { ⌜ 15 ≤ length (now line) ⌝ }
-    ensures { λ r. ⌜ (r .0 ≡ after (now (line .entry)) 0 (nameText ads tab)) × (now (line .exit) ≡ spliced (now (line .entry)) 0 (nameText ads tab)) ⌝ }
+    ensures { λ r. ⌜ (r .0 ≡ offsetAfter (now (line .entry)) 0 (nameText ads tab)) × (now (line .exit) ≡ spliced (now (line .entry)) 0 (nameText ads tab)) ⌝ }
 {
     let tab_at = put_hex(line, Octets(0), b"", &ads);
     put_hex(line, tab_at, b" ", &[tab])
@@ -74,7 +74,7 @@ fn put_name(line: &mut [u8], ads: [u8; 6], tab: u8) -> Octets
 // A record's kind and counts.
 fn put_kind(line: &mut [u8], at: Octets, kind: Kind, content: &[u8]) -> Octets
     requires { ⌜ at .0 + 66 ≤ length (now line) ⌝ }
-    ensures { λ r. ⌜ (r .0 ≡ after (now (line .entry)) (at .0) (kindText kind (now (content .entry)))) × (now (line .exit) ≡ spliced (now (line .entry)) (at .0) (kindText kind (now (content .entry)))) ⌝ }
+    ensures { λ r. ⌜ (r .0 ≡ offsetAfter (now (line .entry)) (at .0) (kindText kind (now (content .entry)))) × (now (line .exit) ≡ spliced (now (line .entry)) (at .0) (kindText kind (now (content .entry)))) ⌝ }
 {
     match kind {
         Kind::Raw => put_number(line, at, b" raw octets ", content.len() as u64),
@@ -85,7 +85,7 @@ fn put_kind(line: &mut [u8], at: Octets, kind: Kind, content: &[u8]) -> Octets
 // A label's two counts.
 fn put_label(line: &mut [u8], at: Octets, content: &[u8]) -> Octets
     requires { ⌜ at .0 + 66 ≤ length (now line) ⌝ }
-    ensures { λ r. ⌜ (r .0 ≡ after (now (line .entry)) (at .0) (kindText Kind.Label (now (content .entry)))) × (now (line .exit) ≡ spliced (now (line .entry)) (at .0) (kindText Kind.Label (now (content .entry)))) ⌝ }
+    ensures { λ r. ⌜ (r .0 ≡ offsetAfter (now (line .entry)) (at .0) (kindText Kind.Label (now (content .entry)))) × (now (line .exit) ≡ spliced (now (line .entry)) (at .0) (kindText Kind.Label (now (content .entry)))) ⌝ }
 {
     let next = put_number(line, at, b" label octets ", content.len() as u64);
     let measured = label::measure(content);

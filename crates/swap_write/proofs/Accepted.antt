@@ -6,10 +6,10 @@ use native.Mathlib.Omega.{arith}
 use lib.ListN.{length, getD, take, drop, length-drop}
 use Rattle.numbers.specs.Answer.{given}
 use Rattle.number.specs.Groups.{encoded}
-use Rattle.swap.specs.declared.file.Records.{Records}
+use Rattle.swap.specs.declared.file.RecordCount.{RecordCount}
 use Rattle.swap.specs.Record.{Record, rankOf}
-use Rattle.swap.specs.Items.{Judged, bad, good, judged, recordAt}
-use Rattle.swap.specs.Reading.{Outcome, faulty, listed, preceded, readRecords, verdictOf}
+use Rattle.swap.specs.Items.{Judged, bad, good, judged, frontRecord}
+use Rattle.swap.specs.Reading.{FileListing, faulty, listed, preceded, readRecords, verdictOf}
 use Rattle.swap.proofs.Tally.{records-bad, records-good}
 use Rattle.swap.proofs.Verdicts.{not-listed}
 use Rattle.swap_write.specs.Heads.{headLength, bodyOf, fileOf}
@@ -26,10 +26,10 @@ listed-count (suc k) least at t rs e = go (judged least t) refl (listed-count k)
     go (bad o) q ih = absurd (not-listed (at + o) rs (sym (records-bad k least at t o q) ∙ e))
     go (good w n) q ih = next (readRecords k (suc (rankOf (take 7 t))) (at + (8 + w + n)) (drop (8 + w + n) t)) refl (sym (records-good k least at t w n q) ∙ e)
       where
-        next : (out : Outcome) → readRecords k (suc (rankOf (take 7 t))) (at + (8 + w + n)) (drop (8 + w + n) t) ≡ out → preceded (recordAt w n t) out ≡ listed rs → length rs ≡ suc k
+        next : (out : FileListing) → readRecords k (suc (rankOf (take 7 t))) (at + (8 + w + n)) (drop (8 + w + n) t) ≡ out → preceded (frontRecord w n t) out ≡ listed rs → length rs ≡ suc k
         next (faulty o) p r = absurd (not-listed o rs r)
         next (listed more) p r =
-            let same : recordAt w n t ∷ more ≡ rs = cc in
+            let same : frontRecord w n t ∷ more ≡ rs = cc in
             rw (← same) (ap suc (ih _ _ _ more p))
 
 -- heads whose data is there have nothing left over
@@ -39,7 +39,7 @@ fits-long zero hs ds h f = f .0
 fits-long (suc k) hs ds h f =
     omega (arith, length-drop 10 hs, fits-long k (drop 10 hs) (drop (headLength hs) ds) (omega (arith, length-drop 10 hs)) (f .1))
 
-pub accepted-long : (hs ds : List ℕ) (c : Records) → verdictOf (fileOf hs ds) ≡ given c → ((i : ℕ) → getD hs i 0 < 256) → length hs ≡ 10 * c .0
+pub accepted-long : (hs ds : List ℕ) (c : RecordCount) → verdictOf (fileOf hs ds) ≡ given c → ((i : ℕ) → getD hs i 0 < 256) → length hs ≡ 10 * c .0
 accepted-long hs ds c e b =
     let r = accepted-body hs ds c e .1 in
     let n : length (r .0) ≡ length hs / 10 = listed-count (length hs / 10) 0 (length (encoded (length hs / 10))) (bodyOf (length hs / 10) hs ds) (r .0) (r .1) in

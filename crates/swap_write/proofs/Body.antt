@@ -13,8 +13,8 @@ use Rattle.numbers.specs.Counts.{inOctets}
 use Rattle.number.specs.Groups.{encoded, found, none}
 use Rattle.number.proofs.Forms.{front-form}
 use Rattle.swap.specs.declared.kind.Kind.{Kind}
-use Rattle.swap.specs.Record.{knownKind, kindOf, lengthLimit, acceptable, rankOf}
-use Rattle.swap.specs.Items.{Judged, bad, good, judged, judgedContent, lengthAt, limited, goodAddress, goodKind, goodContent}
+use Rattle.swap.specs.Record.{knownKind, kindOf, lengthLimit, fitsKind, rankOf}
+use Rattle.swap.specs.Items.{Judged, bad, good, judged, judgedContent, lengthField, limited, goodAddress, goodKind, goodContent}
 use Rattle.swap_write.specs.declared.judge.Head.{Head}
 use Rattle.swap_write.specs.declared.judge.Head.the-variants.{Good, Bad}
 use Rattle.swap_write.specs.Heads.{headLength, frontOctets, bodyOf}
@@ -52,7 +52,7 @@ module _ (p : List ℕ) (n : ℕ) (c : List ℕ) (eight : length p ≡ 8) (small
   laid-rest = rw append-assoc (drop-at p (encoded n ++ c) 8 eight)
 
   laid-judged : (least : ℕ) → judged least ((p ++ encoded n) ++ c) ≡ cond (leb least (rankOf (take 7 p))) (cond (knownKind (getD p 7 0)) (asJudged (dataJudged (kindOf (getD p 7 0)) n c)) (bad 7)) (bad 0)
-  unfolding judged goodAddress goodKind lengthAt dataJudged
+  unfolding judged goodAddress goodKind lengthField dataJudged
   laid-judged least =
       let t : List ℕ = (p ++ encoded n) ++ c in
       let a : leb 7 (length t) ≡ true = le-leb 7 (length t) (omega (arith, laid-long)) in
@@ -142,7 +142,7 @@ head-good least hs ds n e =
     let b = passed (knownKind (getD hs 7 0)) _ 7 n (a .1) in
     let c = passed (leb (headLength hs) (lengthLimit kind)) _ 8 n (b .1) in
     let d = passed (goodContent kind (headLength hs) ds) _ (8 + length (encoded (headLength hs))) n (c .1) in
-    let f = and-eq-true-iff (leb (headLength hs) (length ds)) (acceptable kind (take (headLength hs) ds)) .0 (d .0) in
+    let f = and-eq-true-iff (leb (headLength hs) (length ds)) (fitsKind kind (take (headLength hs) ds)) .0 (d .0) in
     let g : Good (inOctets (headLength hs)) ≡ Good (inOctets n) = d .1 in
     let k : inOctets (headLength hs) ≡ inOctets n = cc in
     let m : headLength hs ≡ n = ap (λ (o : Octets). o .0) k in

@@ -12,7 +12,7 @@ use Rattle.numbers.specs.Counts.{inOctets}
 use Rattle.number.proofs.Laying.{encoded-short}
 use Rattle.number.specs.Groups.{encoded}
 use Rattle.swap.specs.declared.kind.Kind.{Kind}
-use Rattle.swap.specs.Record.{knownKind, kindOf, lengthLimit, acceptable, rankOf}
+use Rattle.swap.specs.Record.{knownKind, kindOf, lengthLimit, fitsKind, rankOf}
 use Rattle.swap.specs.Items.{goodContent}
 use Rattle.swap_write.specs.declared.judge.Head.the-variants.{Good, Bad}
 use Rattle.swap_write.specs.Heads.{headLength}
@@ -32,11 +32,11 @@ module _ (kind : Kind) (n : ℕ) (ds : List ℕ) where
     unfolding goodContent
     data-cut c = data-refused (rw (lt-leb n (length ds) c))
 
-    pub data-ill : acceptable kind (take n ds) ≡ false → Bad (inOctets (8 + length (encoded n))) ≡ dataJudged kind n ds
+    pub data-ill : fitsKind kind (take n ds) ≡ false → Bad (inOctets (8 + length (encoded n))) ≡ dataJudged kind n ds
     unfolding goodContent
     data-ill e = data-refused (rw e (and-false (leb n (length ds))))
 
-    pub data-good : n ≤ length ds → acceptable kind (take n ds) ≡ true → Good (inOctets n) ≡ dataJudged kind n ds
+    pub data-good : n ≤ length ds → fitsKind kind (take n ds) ≡ true → Good (inOctets n) ≡ dataJudged kind n ds
     unfolding dataJudged goodContent
     data-good c e = rw (le-leb n (lengthLimit kind) h, le-leb n (length ds) c, e)
 

@@ -13,11 +13,11 @@ use Rattle.numbers.specs.Answer.{Answer, given, refusedAt}
 use Rattle.numbers.specs.Table.{faultyFile}
 use Rattle.number.specs.Groups.{encoded}
 use Rattle.number.proofs.Fronts.{front-encoded}
-use Rattle.swap.specs.declared.file.Records.{Records}
+use Rattle.swap.specs.declared.file.RecordCount.{RecordCount}
 use Rattle.swap.specs.Record.{rankOf, fileLimit, countLimit}
 use Rattle.swap.specs.Items.{judged, bad, good}
 use Rattle.octets.proofs.Below.{below-drop}
-use Rattle.swap.specs.Reading.{faulty, listed, readRecords, answered, inRecords, verdictOf}
+use Rattle.swap.specs.Reading.{faulty, listed, readRecords, answerOfListing, inRecordCount, verdictOf}
 use Rattle.number.proofs.Forms.{front-form}
 use Rattle.swap.proofs.Verdicts.{verdict-many, verdict-none, verdict-records}
 use Rattle.swap.proofs.Tally.{tallied, tallied-none, tallied-more, records-bad, records-good}
@@ -32,14 +32,14 @@ unfolding headLength
 length-small hs b = omega (arith, b 8, b 9)
 
 -- where the loop stands; the verdict that it is to give is v
-pub record Judging (hs ds : List ℕ) (count : ℕ) (v : Answer Records) (at left least head from : ℕ) : Type 0 where
+pub record Judging (hs ds : List ℕ) (count : ℕ) (v : Answer RecordCount) (at left least head from : ℕ) : Type 0 where
   pub counted : left ≤ count
   pub heads : head + left * 10 ≤ length hs
   pub data-left : from ≤ length ds
   pub small : at + length (bodyOf left (drop head hs) (drop from ds)) ≤ fileLimit
   pub due : v ≡ tallied (count - left) (readRecords left least at (bodyOf left (drop head hs) (drop from ds)))
 
-pub judging-start : (hs ds : List ℕ) (count : ℕ) → count * 10 ≤ length hs → length (encoded count) + length (bodyOf count hs ds) ≤ fileLimit → Judging hs ds count (answered (readRecords count 0 (length (encoded count)) (bodyOf count hs ds))) (length (encoded count)) count 0 0 0
+pub judging-start : (hs ds : List ℕ) (count : ℕ) → count * 10 ≤ length hs → length (encoded count) + length (bodyOf count hs ds) ≤ fileLimit → Judging hs ds count (answerOfListing (readRecords count 0 (length (encoded count)) (bodyOf count hs ds))) (length (encoded count)) count 0 0 0
 judging-start hs ds count h s =
     let z : count - count ≡ 0 = omega arith in
     record {
@@ -60,7 +60,7 @@ unfolding readRecords
 rest-none least at [] h = refl
 rest-none least at (o ∷ t) h = let z : ⊥ = omega arith in absurd z
 
-module _ (hs ds : List ℕ) (octets : (i : ℕ) → getD hs i 0 < 256) (count : ℕ) (v : Answer Records) (at : ℕ) where
+module _ (hs ds : List ℕ) (octets : (i : ℕ) → getD hs i 0 < 256) (count : ℕ) (v : Answer RecordCount) (at : ℕ) where
   module _ (left least head from : ℕ) (j : Judging hs ds count v at (suc left) least head from) where
     ten : 10 ≤ length (drop head hs)
     ten = omega (arith, j .heads, length-drop head hs)
@@ -114,7 +114,7 @@ module _ (hs ds : List ℕ) (octets : (i : ℕ) → getD hs i 0 < 256) (count : 
   judging-left-over least head from j h =
       sym (j .due ∙ rw (rest-bad least at (drop head hs ++ drop from ds) (omega (arith, rest-long head from))))
 
-  pub judging-done : (least head from : ℕ) → Judging hs ds count v at 0 least head from → length hs ≤ head → length ds ≤ from → given (inRecords count) ≡ v
+  pub judging-done : (least head from : ℕ) → Judging hs ds count v at 0 least head from → length hs ≤ head → length ds ≤ from → given (inRecordCount count) ≡ v
   unfolding tallied bodyOf
   judging-done least head from j h k =
       let c : count - 0 + 0 ≡ count = omega arith in
@@ -136,10 +136,10 @@ module _ (hs ds : List ℕ) (small : length (fileOf hs ds) ≤ fileLimit) where
       go true e = verdict-many F small n (length (encoded n)) (front-encoded n (bodyOf n hs ds) ∙ rw e) h
       go false e = verdict-none F small (front-encoded n (bodyOf n hs ds) ∙ rw e)
 
-  pub file-records : length hs / 10 ≤ countLimit → answered (readRecords (length hs / 10) 0 (length (encoded (length hs / 10))) (bodyOf (length hs / 10) hs ds)) ≡ verdictOf (fileOf hs ds)
+  pub file-records : length hs / 10 ≤ countLimit → answerOfListing (readRecords (length hs / 10) 0 (length (encoded (length hs / 10))) (bodyOf (length hs / 10) hs ds)) ≡ verdictOf (fileOf hs ds)
   unfolding fileOf
   file-records h =
       let n : ℕ = length hs / 10 in
       let w : ℕ = length (encoded n) in
-      ap (λ (t : List ℕ). answered (readRecords n 0 w t)) (sym (drop-at (encoded n) (bodyOf n hs ds) w refl))
+      ap (λ (t : List ℕ). answerOfListing (readRecords n 0 w t)) (sym (drop-at (encoded n) (bodyOf n hs ds) w refl))
       ∙ verdict-records (encoded n ++ bodyOf n hs ds) small n w (front-form n (bodyOf n hs ds) (omega arith)) h

@@ -11,12 +11,12 @@ use Rattle.octets.proofs.Splice.{spliced-front, spliced-next, spliced-after, le
 use Rattle.octets.proofs.Below.{below-drop}
 use Rattle.numbers.specs.Counts.{inOctets}
 use Rattle.numbers.specs.Answer.{given}
-use Rattle.number.specs.Groups.{encoded, octetsAt}
+use Rattle.number.specs.Groups.{encoded, withNumberAt}
 use Rattle.number.proofs.Forms.{own-form}
-use Rattle.swap.specs.declared.file.Records.{Records}
+use Rattle.swap.specs.declared.file.RecordCount.{RecordCount}
 use Rattle.swap.specs.Record.{Record, countLimit, rankOf}
 use Rattle.swap.specs.Items.{good, judged}
-use Rattle.swap.specs.Reading.{Outcome, faulty, listed, preceded, readRecords, verdictOf}
+use Rattle.swap.specs.Reading.{FileListing, faulty, listed, preceded, readRecords, verdictOf}
 use Rattle.swap.proofs.Tally.{records-bad, records-good}
 use Rattle.swap.proofs.Verdicts.{not-listed, accepted}
 use Rattle.swap_write.specs.declared.judge.Head.{Head}
@@ -31,7 +31,7 @@ unfoldable pub Fits : ℕ → List ℕ → List ℕ → Type 0
 Fits zero hs ds = (length hs ≡ 0) × (length ds ≡ 0)
 Fits (suc k) hs ds = (headLength hs ≤ length ds) × Fits k (drop 10 hs) (drop (headLength hs) ds)
 
-listed-after : (r : Record) (out : Outcome) (rs : List Record) → preceded r out ≡ listed rs → (qs : List Record) × (out ≡ listed qs)
+listed-after : (r : Record) (out : FileListing) (rs : List Record) → preceded r out ≡ listed rs → (qs : List Record) × (out ≡ listed qs)
 unfolding preceded
 listed-after r (faulty o) rs e = absurd (not-listed o rs e)
 listed-after r (listed qs) rs e = (qs, refl)
@@ -69,7 +69,7 @@ no-elements [] e = refl
 no-elements (o ∷ s) e = let z : ⊥ = omega arith in absurd z
 
 -- the records of an accepted file are read from the octets of its heads and data
-module _ (hs ds : List ℕ) (c : Records) (e : verdictOf (fileOf hs ds) ≡ given c) where
+module _ (hs ds : List ℕ) (c : RecordCount) (e : verdictOf (fileOf hs ds) ≡ given c) where
   pub accepted-body : (length hs / 10 ≤ countLimit) × ((rs : List Record) × (readRecords (length hs / 10) 0 (length (encoded (length hs / 10))) (bodyOf (length hs / 10) hs ds) ≡ listed rs) × (length rs ≡ c .0))
   unfolding fileOf
   accepted-body =
@@ -85,12 +85,12 @@ module _ (hs ds : List ℕ) (c : Records) (e : verdictOf (fileOf hs ds) ≡ give
       listed-fits (length hs / 10) 0 (length (encoded (length hs / 10))) hs ds (r .0) b (omega arith) (r .1)
 
 -- a number written is spliced in
-octets-spliced : (m : List ℕ) (at n : ℕ) → octetsAt m (inOctets at) n ≡ spliced m at (encoded n)
-unfolding octetsAt spliced
+octets-spliced : (m : List ℕ) (at n : ℕ) → withNumberAt m (inOctets at) n ≡ spliced m at (encoded n)
+unfolding withNumberAt spliced
 octets-spliced m at n = rw take-length
 
 -- the three writes that lay a record
-pub record-laid : (m hs c : List ℕ) (at from : ℕ) → 10 ≤ length hs → from ≡ at + 8 + length (encoded (headLength hs)) → from + length c ≤ length m → spliced (octetsAt (spliced m at (take 8 hs)) (inOctets (at + 8)) (headLength hs)) from c ≡ spliced m at (frontOctets hs ++ c)
+pub record-laid : (m hs c : List ℕ) (at from : ℕ) → 10 ≤ length hs → from ≡ at + 8 + length (encoded (headLength hs)) → from + length c ≤ length m → spliced (withNumberAt (spliced m at (take 8 hs)) (inOctets (at + 8)) (headLength hs)) from c ≡ spliced m at (frontOctets hs ++ c)
 unfolding frontOctets
 record-laid m hs c at from ten e h =
     let E : List ℕ = encoded (headLength hs) in
@@ -125,7 +125,7 @@ fronted-over p q m h =
 
 module _ (hs ds m : List ℕ) (h : length (fileOf hs ds) ≤ length m) where
   -- the count, laid at the front
-  counted : octetsAt m (inOctets 0) (length hs / 10) ≡ fronted (encoded (length hs / 10)) m
+  counted : withNumberAt m (inOctets 0) (length hs / 10) ≡ fronted (encoded (length hs / 10)) m
   unfolding fileOf
   counted =
       let n : ℕ = length hs / 10 in
@@ -136,8 +136,8 @@ module _ (hs ds m : List ℕ) (h : length (fileOf hs ds) ≤ length m) where
   count-first = let n : ℕ = length hs / 10 in omega (arith, length-append (encoded n) (bodyOf n hs ds))
 
   -- b is the buffer with the count
-  module _ (b : List ℕ) (is : b ≡ octetsAt m (inOctets 0) (length hs / 10)) where
-    pub laying-start : (c : Records) → ((i : ℕ) → getD hs i 0 < 256) → verdictOf (fileOf hs ds) ≡ given c → Laying hs ds b (encoded (length hs / 10)) b (length (encoded (length hs / 10))) (length hs / 10) 0 0
+  module _ (b : List ℕ) (is : b ≡ withNumberAt m (inOctets 0) (length hs / 10)) where
+    pub laying-start : (c : RecordCount) → ((i : ℕ) → getD hs i 0 < 256) → verdictOf (fileOf hs ds) ≡ given c → Laying hs ds b (encoded (length hs / 10)) b (length (encoded (length hs / 10))) (length hs / 10) 0 0
     unfolding fileOf
     laying-start c o e =
         let n : ℕ = length hs / 10 in

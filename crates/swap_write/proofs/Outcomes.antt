@@ -12,7 +12,7 @@ use Rattle.numbers.specs.Counts.{inOctets}
 use Rattle.numbers.specs.Answer.{given, refused, refusedAt}
 use Rattle.octets.specs.Splice.{fronted}
 use Rattle.numbers.specs.Table.{wrongLength}
-use Rattle.swap.specs.declared.file.Records.{Records}
+use Rattle.swap.specs.declared.file.RecordCount.{RecordCount}
 use Rattle.swap.specs.Record.{fileLimit}
 use Rattle.swap.specs.Reading.{verdictOf}
 use Rattle.swap_write.specs.declared.size.Size.the-variants as size
@@ -24,7 +24,7 @@ module _ (hs ds b : List ℕ) where
   unfolding writing judgedWriting
   writing-refused n o e = rw (← e)
 
-  module _ (c : Records) (e : given c ≡ verdictOf (fileOf hs ds)) where
+  module _ (c : RecordCount) (e : given c ≡ verdictOf (fileOf hs ds)) where
     pub writing-short : length b < length (fileOf hs ds) → record { answer = refused wrongLength; buffer = b } ≡ writing hs ds b
     unfolding writing judgedWriting laid
     writing-short h = rw (← e, lt-leb (length (fileOf hs ds)) (length b) h)

@@ -13,7 +13,7 @@ use Rattle.octets.proofs.Splice.{take-fronted}
 use Rattle.number.specs.Groups.{encoded}
 use Rattle.swap.specs.Record.{Record, OfOctets, Each}
 use Rattle.swap.specs.Encoding.{recordOctets, recordsOctets, encode, Within}
-use Rattle.swap.specs.Reading.{readFile, listed, verdictOf, inRecords}
+use Rattle.swap.specs.Reading.{readFile, listed, verdictOf, inRecordCount}
 use Rattle.swap.proofs.Encoded.{all-octets}
 use Rattle.swap.proofs.RoundTrip.{read-encode, encode-read, encoding-accepted}
 use Rattle.swap_write.specs.Heads.{headOf, headsOf, contentsOf, headLength, frontOctets, bodyOf, fileOf}
@@ -79,7 +79,7 @@ file-encode rs s =
 pub write-whole : (rs : List Record) (b : List ℕ) → Within rs → length (encode rs) ≤ length b → writing (headsOf rs) (contentsOf rs) b ≡ record { answer = given (inOctets (length (encode rs))); buffer = fronted (encode rs) b }
 write-whole rs b h k =
     let e : fileOf (headsOf rs) (contentsOf rs) ≡ encode rs = file-encode rs (all-octets (h .sound)) in
-    sym (writing-whole (headsOf rs) (contentsOf rs) b (inRecords (length rs)) (sym (ap verdictOf e ∙ encoding-accepted rs h)) (rw e k)) ∙ rw e
+    sym (writing-whole (headsOf rs) (contentsOf rs) b (inRecordCount (length rs)) (sym (ap verdictOf e ∙ encoding-accepted rs h)) (rw e k)) ∙ rw e
 
 -- records read from an accepted file and written give the same octets
 pub read-write : (s : List ℕ) (rs : List Record) (b : List ℕ) → ((i : ℕ) → getD s i 0 < 256) → readFile s ≡ listed rs → length s ≤ length b → writing (headsOf rs) (contentsOf rs) b ≡ record { answer = given (inOctets (length s)); buffer = fronted s b }

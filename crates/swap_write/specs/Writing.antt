@@ -9,7 +9,7 @@ use Rattle.numbers.specs.Counts.{inOctets}
 use Rattle.numbers.specs.Answer.{Answer, given, refused, refusedAt}
 use Rattle.octets.specs.Splice.{fronted}
 use Rattle.numbers.specs.Table.{faultyFile, wrongLength}
-use Rattle.swap.specs.declared.file.Records.{Records}
+use Rattle.swap.specs.declared.file.RecordCount.{RecordCount}
 use Rattle.swap.specs.Record.{fileLimit}
 use Rattle.swap.specs.Reading.{verdictOf}
 use Rattle.swap_write.specs.declared.Written.{Written}
@@ -37,7 +37,7 @@ laid file buffer =
     (record { answer = refused wrongLength; buffer = buffer })
 
 -- 01, Swap file: 18 and the reader's offset, "then a buffer too short for the file with 17; both leave the buffer"
-unfoldable pub judgedWriting : Answer Records → List ℕ → List ℕ → Outcome
+unfoldable pub judgedWriting : Answer RecordCount → List ℕ → List ℕ → Outcome
 judgedWriting (given count) file buffer = laid file buffer
 judgedWriting (refused n) file buffer = record { answer = refused n; buffer = buffer }
 judgedWriting (refusedAt n offset) file buffer = record { answer = refusedAt n offset; buffer = buffer }

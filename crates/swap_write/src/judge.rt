@@ -2,7 +2,7 @@
 ghost use mathlib.Core.Path.{_≡_};
 ghost use Prim.Native.Nat.{_+_, _*_, _≤_, _<_};
 ghost use lib.ListN.{length};
-ghost use Rattle.swap.specs.Reading.{answerOfVerdict, verdictOf, answered, readRecords};
+ghost use Rattle.swap.specs.Reading.{answerOfVerdict, verdictOf, answerOfListing, readRecords};
 ghost use Rattle.number.specs.Groups.{encoded};
 ghost use Rattle.swap.specs.Record.{fileLimit};
 ghost use Rattle.swap_write.specs.Heads.{headSize, bodyOf, fileOf};
@@ -11,12 +11,12 @@ use crate::size::HEAD_SIZE;
 use crate::size::head_length;
 use crate::size::width_of;
 use numbers::Octets;
-use swap::Records;
+use swap::RecordCount;
 use swap::Verdict;
 use swap::file::COUNT_LIMIT;
 use swap::item::rank;
 use swap::kind::Kind;
-use swap::kind::is_acceptable;
+use swap::kind::fits_kind;
 use swap::kind::kind_of;
 use swap::kind::known;
 use swap::kind::length_limit;
@@ -42,7 +42,7 @@ pub(crate) fn judge(heads: &[u8], contents: &[u8]) -> Verdict
 // So many heads with their data, and nothing left over.
 fn judge_heads(heads: &[u8], contents: &[u8], count: usize) -> Verdict
     requires { ⌜ (count * headSize ≤ length (now heads)) × (length (encoded count) + length (bodyOf count (now heads) (now contents)) ≤ fileLimit) ⌝ }
-    ensures { λ r. ⌜ answerOfVerdict r ≡ answered (readRecords count 0 (length (encoded count)) (bodyOf count (now (heads .entry)) (now (contents .entry)))) ⌝ }
+    ensures { λ r. ⌜ answerOfVerdict r ≡ answerOfListing (readRecords count 0 (length (encoded count)) (bodyOf count (now (heads .entry)) (now (contents .entry)))) ⌝ }
 {
     let mut at = width_of(count);
     let mut left = count;
@@ -71,7 +71,7 @@ fn judge_heads(heads: &[u8], contents: &[u8], count: usize) -> Verdict
     if from < contents.len() {
         return Verdict::Fault(Octets(at));
     }
-    Verdict::Accepted(Records(count))
+    Verdict::Accepted(RecordCount(count))
 }
 
 // The head at the front, with its data at the front of the contents.
@@ -100,7 +100,7 @@ fn judge_data(kind: Kind, stated: Octets, contents: &[u8]) -> Head
     if contents.len() < length {
         return Head::Bad(Octets(8 + width_of(length)));
     }
-    if !is_acceptable(kind, &contents[..length]) {
+    if !fits_kind(kind, &contents[..length]) {
         return Head::Bad(Octets(8 + width_of(length)));
     }
     Head::Good(stated)

@@ -6,7 +6,7 @@ ghost use lib.ListN.{length};
 ghost use Rattle.numbers.specs.Answer.{given};
 ghost use Rattle.number.specs.Groups.{encoded};
 ghost use Rattle.octets.specs.Splice.{spliced, fronted};
-ghost use Rattle.swap.specs.declared.file.Records.{Records};
+ghost use Rattle.swap.specs.declared.file.RecordCount.{RecordCount};
 ghost use Rattle.swap.specs.Reading.{verdictOf};
 ghost use Rattle.swap_write.specs.Heads.{headSize, headLength, frontOctets, fileOf};
 use crate::size::HEAD_SIZE;
@@ -16,7 +16,7 @@ use numbers::Octets;
 
 // The whole of an accepted file, at the front of a buffer that is long enough.
 pub(crate) fn lay(heads: &[u8], contents: &[u8], buffer: &mut [u8])
-    requires { ⌜ ((count : Records) × (verdictOf (fileOf (now heads) (now contents)) ≡ given count)) ⌝ }
+    requires { ⌜ ((count : RecordCount) × (verdictOf (fileOf (now heads) (now contents)) ≡ given count)) ⌝ }
     requires { ⌜ length (fileOf (now heads) (now contents)) ≤ length (now buffer) ⌝ }
     ensures { λ _. ⌜ now (buffer .exit) ≡ fronted (fileOf (now (heads .entry)) (now (contents .entry))) (now (buffer .entry)) ⌝ }
 {

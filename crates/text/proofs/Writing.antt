@@ -7,19 +7,19 @@ use lib.ListN.{length, length-append}
 use borrow.Author.Tests.{le-leb, lt-leb}
 use Rattle.octets.specs.Splice.{spliced}
 use Rattle.octets.proofs.Splice.{spliced-past, spliced-after, length-spliced}
-use Rattle.text.specs.Text.{after}
+use Rattle.text.specs.Text.{offsetAfter}
 
-pub after-fits : (m : List ℕ) (at : ℕ) (s : List ℕ) → at + length s ≤ length m → after m at s ≡ at + length s
-unfolding after
+pub after-fits : (m : List ℕ) (at : ℕ) (s : List ℕ) → at + length s ≤ length m → offsetAfter m at s ≡ at + length s
+unfolding offsetAfter
 after-fits m at s h = rw (le-leb (at + length s) (length m) h)
 
-pub after-past : (m : List ℕ) (at : ℕ) (s : List ℕ) → length m < at + length s → after m at s ≡ at
-unfolding after
+pub after-past : (m : List ℕ) (at : ℕ) (s : List ℕ) → length m < at + length s → offsetAfter m at s ≡ at
+unfolding offsetAfter
 after-past m at s h = rw (lt-leb (at + length s) (length m) h)
 
 -- what a call that writes s gives and leaves
 abbrev pub Written : List ℕ → ℕ → List ℕ → ℕ → List ℕ → Type 0
-Written m at s r b = (r ≡ after m at s) × (b ≡ spliced m at s)
+Written m at s r b = (r ≡ offsetAfter m at s) × (b ≡ spliced m at s)
 
 -- a text that does not fit is not written
 pub unwritten : (m : List ℕ) (at : ℕ) (s : List ℕ) → length m < at + length s → Written m at s at m

@@ -24,5 +24,5 @@ unfoldable pub decimalText : ℕ → List ℕ
 decimalText n = decimal 19 n
 
 -- the offset after a text s that is written from offset at on; at itself where s does not fit
-unfoldable pub after : List ℕ → ℕ → List ℕ → ℕ
-after m at s = cond (leb (at + length s) (length m)) (at + length s) at
+unfoldable pub offsetAfter : List ℕ → ℕ → List ℕ → ℕ
+offsetAfter m at s = cond (leb (at + length s) (length m)) (at + length s) at

@@ -5,7 +5,7 @@ ghost use mathlib.Core.List.{_++_};
 ghost use Prim.Native.Nat.{_+_, _*_, _≤_, _<_};
 ghost use lib.ListN.{length, drop};
 ghost use Rattle.octets.specs.Splice.{spliced};
-ghost use Rattle.text.specs.Text.{digitOf, hexText, decimalText, after};
+ghost use Rattle.text.specs.Text.{digitOf, hexText, decimalText, offsetAfter};
 use numbers::Octets;
 
 // The digits of a number at the end of an array, from an offset on.
@@ -16,7 +16,7 @@ struct Decimal {
 
 // Words.
 pub fn put_words(buffer: &mut [u8], at: Octets, words: &[u8]) -> Octets
-    ensures { λ r. ⌜ (r .0 ≡ after (now (buffer .entry)) (at .0) (now (words .entry))) × (now (buffer .exit) ≡ spliced (now (buffer .entry)) (at .0) (now (words .entry))) ⌝ }
+    ensures { λ r. ⌜ (r .0 ≡ offsetAfter (now (buffer .entry)) (at .0) (now (words .entry))) × (now (buffer .exit) ≡ spliced (now (buffer .entry)) (at .0) (now (words .entry))) ⌝ }
 {
     if buffer.len() < words.len() {
         return at;
@@ -31,7 +31,7 @@ pub fn put_words(buffer: &mut [u8], at: Octets, words: &[u8]) -> Octets
 
 // Words, and the hexadecimal digits of octets after them.
 pub fn put_hex(buffer: &mut [u8], at: Octets, words: &[u8], octets: &[u8]) -> Octets
-    ensures { λ r. ⌜ (r .0 ≡ after (now (buffer .entry)) (at .0) (now (words .entry) ++ hexText (now (octets .entry)))) × (now (buffer .exit) ≡ spliced (now (buffer .entry)) (at .0) (now (words .entry) ++ hexText (now (octets .entry)))) ⌝ }
+    ensures { λ r. ⌜ (r .0 ≡ offsetAfter (now (buffer .entry)) (at .0) (now (words .entry) ++ hexText (now (octets .entry)))) × (now (buffer .exit) ≡ spliced (now (buffer .entry)) (at .0) (now (words .entry) ++ hexText (now (octets .entry)))) ⌝ }
 {
     if buffer.len() < words.len() {
         return at;
@@ -49,7 +49,7 @@ pub fn put_hex(buffer: &mut [u8], at: Octets, words: &[u8], octets: &[u8]) -> Oc
 
 // Words, and a number after them.
 pub fn put_number(buffer: &mut [u8], at: Octets, words: &[u8], n: u64) -> Octets
-    ensures { λ r. ⌜ (r .0 ≡ after (now (buffer .entry)) (at .0) (now (words .entry) ++ decimalText n)) × (now (buffer .exit) ≡ spliced (now (buffer .entry)) (at .0) (now (words .entry) ++ decimalText n)) ⌝ }
+    ensures { λ r. ⌜ (r .0 ≡ offsetAfter (now (buffer .entry)) (at .0) (now (words .entry) ++ decimalText n)) × (now (buffer .exit) ≡ spliced (now (buffer .entry)) (at .0) (now (words .entry) ++ decimalText n)) ⌝ }
 {
     let decimal = decimal_of(n);
     let digits = decimal.digits;
@@ -59,7 +59,7 @@ pub fn put_number(buffer: &mut [u8], at: Octets, words: &[u8], n: u64) -> Octets
 
 // Words, and other words after them.
 fn put_both(buffer: &mut [u8], at: Octets, first: &[u8], second: &[u8]) -> Octets
-    ensures { λ r. ⌜ (r .0 ≡ after (now (buffer .entry)) (at .0) (now (first .entry) ++ now (second .entry))) × (now (buffer .exit) ≡ spliced (now (buffer .entry)) (at .0) (now (first .entry) ++ now (second .entry))) ⌝ }
+    ensures { λ r. ⌜ (r .0 ≡ offsetAfter (now (buffer .entry)) (at .0) (now (first .entry) ++ now (second .entry))) × (now (buffer .exit) ≡ spliced (now (buffer .entry)) (at .0) (now (first .entry) ++ now (second .entry))) ⌝ }
 {
     if buffer.len() < first.len() {
         return at;
@@ -78,7 +78,7 @@ fn put_both(buffer: &mut [u8], at: Octets, first: &[u8], second: &[u8]) -> Octet
 // Two digits for each octet, where they fit.
 fn put_digits(buffer: &mut [u8], at: Octets, octets: &[u8]) -> Octets
     requires { ⌜ at .0 + 2 * length (now octets) ≤ length (now buffer) ⌝ }
-    ensures { λ r. ⌜ (r .0 ≡ after (now (buffer .entry)) (at .0) (hexText (now (octets .entry)))) × (now (buffer .exit) ≡ spliced (now (buffer .entry)) (at .0) (hexText (now (octets .entry)))) ⌝ }
+    ensures { λ r. ⌜ (r .0 ≡ offsetAfter (now (buffer .entry)) (at .0) (hexText (now (octets .entry)))) × (now (buffer .exit) ≡ spliced (now (buffer .entry)) (at .0) (hexText (now (octets .entry)))) ⌝ }
 {
     let mut next = at.0;
     let mut i = 0;

@@ -20,7 +20,7 @@ use Rattle.tool.specs.declared.requests.Arguments.{Arguments}
 use Rattle.frame.specs.Sizes.{addressWidth, numberWidth, mostProgrammed, mostTransferred, longestFrame}
 use Rattle.tool.specs.Parts.{idle}
 use Rattle.tool.specs.Soundness.{sound}
-use Rattle.tool.specs.Requests.{Asking, zeroNumber, askingOf, commandOf, addressable, limitOf, lentRightly, admission}
+use Rattle.tool.specs.Requests.{Asking, zeroNumber, askingOf, sentCommand, addressable, limitOf, lentRightly, admission}
 
 -- what is lent for a request is as long as it must be
 pub record Lent (ads key na1 : List ℕ) (bufferLength : ℕ) : Type 0 where
@@ -62,7 +62,7 @@ admits t r ads d =
     go false i x y es ei ex ey e = impossible (cc)
 
 -- the limit of 01 is that of the request's frame
-pub limit-within : (r : Request) (n : ℕ) → n ≤ limitOf r → within (layoutOf (commandOf r)) n ≡ true
+pub limit-within : (r : Request) (n : ℕ) → n ≤ limitOf r → within (layoutOf (sentCommand r)) n ≡ true
 unfolding within layoutOf between
 limit-within Enq n h = rw (le-leb 0 n (omega arith), le-leb n 0 h)
 limit-within Trf n h = rw (le-leb 0 n (omega arith), le-leb n mostTransferred h)

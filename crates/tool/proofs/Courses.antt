@@ -17,7 +17,7 @@ use Rattle.tool.specs.declared.Tool.{Tool}
 use Rattle.frame.specs.Sizes.{longestFrame}
 use Rattle.tool.specs.Parts.{idle, Response, silent, refusing, over, finished}
 use Rattle.tool.specs.Soundness.{sound}
-use Rattle.tool.specs.Requests.{Asking, addressable, limitOf, lentRightly, admission, sending, admitted, afterAsking}
+use Rattle.tool.specs.Requests.{Asking, addressable, limitOf, lentRightly, admission, sending, unlessRefused, afterAsking}
 use Rattle.tool.specs.Replies.{authenticating}
 use Rattle.tool.specs.Events.{afterStep, heardAs, heardStep, Call, Ask, Octet, Gap, SessionEnd, after, afterOctet, afterGap, afterSessionEnd}
 use Rattle.tool.specs.Leaving.{KeepsAll, ReceiverOnly, Over, effectOf, unmade}
@@ -84,7 +84,7 @@ module _ (t : Tool) where
         go false i a w es e = broken-stays (Ask q l) es
 
     ask-course : Course t (Ask q l) (afterAsking t q l)
-    unfolding afterAsking admitted
+    unfolding afterAsking unlessRefused
     ask-course = tested (lentRightly (q .ads) (q .key) (q .na1) l) refl
       where
         judged : lentRightly (q .ads) (q .key) (q .na1) l ≡ true → (b : Bool) → eqb (admission t (q .request) (q .ads) (q .content)) none ≡ b

@@ -5,14 +5,14 @@ use borrow.Author.Tests.{leb-true, le-leb}
 use Rattle.receiver.specs.Receiver as receiver
 use Rattle.receiver.proofs.Soundness as receiver-soundness
 use Rattle.tool.specs.declared.Tool.{Tool}
-use Rattle.tool.specs.Soundness.{fitting, sound, Sound}
+use Rattle.tool.specs.Soundness.{withinRec, sound, Sound}
 use Rattle.octets.proofs.Impossible.{impossible}
 
 pub test-sound : (t : Tool) → sound t ≡ true → Sound t
 unfolding sound
-test-sound t = go (fitting (t .phase)) (receiver.sound (t .receiver)) refl refl
+test-sound t = go (withinRec (t .phase)) (receiver.sound (t .receiver)) refl refl
   where
-    go : (a b : Bool) → fitting (t .phase) ≡ a → receiver.sound (t .receiver) ≡ b → (a && b) ≡ true → Sound t
+    go : (a b : Bool) → withinRec (t .phase) ≡ a → receiver.sound (t .receiver) ≡ b → (a && b) ≡ true → Sound t
     go true true p q e = record { sent = leb-true _ _ p; receiver = receiver-soundness.test-sound (t .receiver) q }
     go true false p q e = impossible (cc)
     go false b p q e = impossible (cc)

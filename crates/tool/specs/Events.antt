@@ -39,11 +39,11 @@ unfoldable pub afterGap : Tool → Response
 afterGap t = cond (sound t) (heardStep (onGap (receptionOf (t .receiver))) t) (refusing t brokenRule)
 
 -- "A session end empties the receiver and, while waiting, ends with 15"
-abbrev pub closed : Tool → Response
-closed t = cond (idle (t .phase)) (silent t) (over t sessionEnded)
+abbrev pub sessionOver : Tool → Response
+sessionOver t = cond (idle (t .phase)) (silent t) (over t sessionEnded)
 
 unfoldable pub afterSessionEnd : Tool → Response
-afterSessionEnd t = cond (sound t) (closed (afterStep (onSessionEnd (receptionOf (t .receiver))) t)) (refusing t brokenRule)
+afterSessionEnd t = cond (sound t) (sessionOver (afterStep (onSessionEnd (receptionOf (t .receiver))) t)) (refusing t brokenRule)
 
 -- a call on a tool with its arguments; of the frame buffer only the length bears on what the tool does
 pub data Call : Type 0 where

@@ -111,12 +111,12 @@ pub record Told : Type 0 where
   pub frame : Octets
   pub contents : Contents
 
-abbrev pub contentsOf : List ℕ → Contents
-contentsOf d = record { octets = fronted d (replicate mostTransferred 0); length = inOctets (length d) }
+abbrev pub paddedContents : List ℕ → Contents
+paddedContents d = record { octets = fronted d (replicate mostTransferred 0); length = inOctets (length d) }
 
 abbrev pub told : Response → Told
 told r =
-    record { tool = r .tool; answer = r .answer; wake = r .wake; frame = inOctets (length (r .frame)); contents = contentsOf (r .contents) }
+    record { tool = r .tool; answer = r .answer; wake = r .wake; frame = inOctets (length (r .frame)); contents = paddedContents (r .contents) }
 
 -- nothing is sent, and these contents were read
 abbrev pub unsent : Tool → Answer Progress → Contents → Told
@@ -124,10 +124,10 @@ unsent t a c = record { tool = t; answer = a; wake = None; frame = inOctets 0; c
 
 -- what each call's value says of these; what it does not carry is none
 abbrev pub answerOfAnswered : Answered → Told
-answerOfAnswered a = unsent (a .tool) (answerOf (a .answer)) (contentsOf [])
+answerOfAnswered a = unsent (a .tool) (answerOf (a .answer)) (paddedContents [])
 
 abbrev pub answerOfRequested : Requested → Told
-answerOfRequested a = record { tool = a .tool; answer = answerOf (a .answer); wake = a .wake; frame = a .frame; contents = contentsOf [] }
+answerOfRequested a = record { tool = a .tool; answer = answerOf (a .answer); wake = a .wake; frame = a .frame; contents = paddedContents [] }
 
 abbrev pub answerOfHeard : Heard → Told
 answerOfHeard a = record { tool = a .tool; answer = answerOf (a .answer); wake = a .wake; frame = a .frame; contents = a .contents }

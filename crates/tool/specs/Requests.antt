@@ -67,12 +67,12 @@ initialising ads adp =
     record { request = Ib; ads = ads; adp = adp; tab = 0; content = []; key = zeroNumber; na1 = zeroNumber }
 
 -- the frames that they send
-abbrev pub commandOf : Request → Command
-commandOf Enq = command.Enq
-commandOf Trf = command.Trf
-commandOf Rec = command.Rec
-commandOf Trb = command.Trb
-commandOf Ib = command.Ib
+abbrev pub sentCommand : Request → Command
+sentCommand Enq = command.Enq
+sentCommand Trf = command.Trf
+sentCommand Rec = command.Rec
+sentCommand Trb = command.Trb
+sentCommand Ib = command.Ib
 
 -- "Point-to-point requests refuse a broadcast address, broadcast requests any other (6)"
 abbrev pub broadcasts : Request → Bool
@@ -157,17 +157,17 @@ sending q t =
       tool = asked q t;
       answer = given (progressOf (q .request));
       wake = wake.wakeBefore (lastOf (t .phase)) (t .waking) (q .request) (q .ads);
-      frame = frameOctets (commandOf (q .request)) (requestFields q) (q .content);
+      frame = frameOctets (sentCommand (q .request)) (requestFields q) (q .content);
       contents = [];
     }
 
 -- a refused request leaves the tool and the buffer
-unfoldable pub admitted : ℕ → Tool → Response → Response
-admitted number t r = cond (eqb number none) r (refusing t number)
+unfoldable pub unlessRefused : ℕ → Tool → Response → Response
+unlessRefused number t r = cond (eqb number none) r (refusing t number)
 
 -- "so 17, 12, 16, 6, 7"
 unfoldable pub afterAsking : Tool → Asking → ℕ → Response
 afterAsking t q bufferLength =
     cond (lentRightly (q .ads) (q .key) (q .na1) bufferLength)
-    (admitted (admission t (q .request) (q .ads) (q .content)) t (sending q t))
+    (unlessRefused (admission t (q .request) (q .ads) (q .content)) t (sending q t))
     (refusing t wrongLength)

@@ -17,14 +17,14 @@ sentLength (Programming tab n) = n .0
 sentLength Authenticating = 0
 
 -- no more DATA than a REC can have
-abbrev pub fitting : Phase → Bool
-fitting p = leb (sentLength p) mostProgrammed
+abbrev pub withinRec : Phase → Bool
+withinRec p = leb (sentLength p) mostProgrammed
 
 -- "a card, tool or card memory that breaks a setup rule, holds a length over its limit or a state mark not in use is refused with 12 ..; so is a
 -- partly received frame whose N answer 1 would refuse, or with as many octets as its N states or more." A tool has no setup rule, and every
 -- state mark of a tool by value is in use by its type.
 unfoldable pub sound : Tool → Bool
-sound t = fitting (t .phase) && receiver.sound (t .receiver)
+sound t = withinRec (t .phase) && receiver.sound (t .receiver)
 
 -- the same rules one by one
 pub record Sound (t : Tool) : Type 0 where

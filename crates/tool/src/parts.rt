@@ -2,7 +2,7 @@
 ghost use mathlib.Core.Path.{_≡_};
 ghost use mathlib.Core.List.{[]};
 ghost use Rattle.tool.specs.Answers.{refusalNumber, answerOf};
-ghost use Rattle.tool.specs.Parts.{inPhase, withReceiver, withWaking, ended, endedWell, responding, refusing, over, told, unsent, contentsOf, answerOfAnswered, answerOfRequested, answerOfHeard};
+ghost use Rattle.tool.specs.Parts.{inPhase, withReceiver, withWaking, ended, endedWell, responding, refusing, over, told, unsent, paddedContents, answerOfAnswered, answerOfRequested, answerOfHeard};
 use crate::Answer;
 use crate::Answered;
 use crate::Contents;
@@ -19,7 +19,7 @@ use wake::WakeUps;
 
 // Nothing was read.
 fn no_contents() -> Contents
-    ensures { λ r. ⌜ r ≡ contentsOf [] ⌝ }
+    ensures { λ r. ⌜ r ≡ paddedContents [] ⌝ }
 {
     Contents {
         octets: [0u8; MOST_TRANSFERRED],

@@ -5,7 +5,7 @@ ghost use lib.ListN.{length};
 ghost use Rattle.frame.specs.Sizes.{mostProgrammed, mostTransferred, longestFrame};
 ghost use Rattle.numbers.specs.Answer.{given};
 ghost use Rattle.tool.specs.Answers.{done};
-ghost use Rattle.tool.specs.Parts.{endedWell, unsent, contentsOf, answerOfHeard, Gives};
+ghost use Rattle.tool.specs.Parts.{endedWell, unsent, paddedContents, answerOfHeard, Gives};
 ghost use Rattle.tool.specs.Replies.{replyOf, turnOf, onReading, onTransferring, isEcho, onAuthenticating, enciphers, echoes, onEcho, turn, authentication, authenticating, performed, expected, onFrame};
 ghost use Rattle.tool.specs.Soundness.{sentLength};
 use crate::Answer;
@@ -131,9 +131,9 @@ fn on_authenticating(reply: Reply) -> Turn
 }
 
 // The contents of a reading.
-fn contents_of(data: &[u8]) -> Contents
+fn padded_contents(data: &[u8]) -> Contents
     requires { ⌜ length (now «data») ≤ mostTransferred ⌝ }
-    ensures { λ r. ⌜ r ≡ contentsOf (now («data» .entry)) ⌝ }
+    ensures { λ r. ⌜ r ≡ paddedContents (now («data» .entry)) ⌝ }
 {
     let mut octets = [0u8; MOST_TRANSFERRED];
     octets::put(&mut octets, 0, data);
@@ -241,8 +241,8 @@ impl Tool {
     {
         match turn {
             Turn::Drop => self.hearing(Answer::Nothing),
-            Turn::Read => self.finished(contents_of(data)),
-            Turn::End => self.finished(contents_of(&[])),
+            Turn::Read => self.finished(padded_contents(data)),
+            Turn::End => self.finished(padded_contents(&[])),
             Turn::Fail(refusal) => self.over(refusal),
             Turn::Authenticate => {
                 let za2 = fields.za2;

@@ -10,7 +10,7 @@ ghost use Rattle.wake.specs.Rule.{wakeBefore};
 ghost use Rattle.frame.specs.Sizes.{addressWidth, mostProgrammed, longestFrame};
 ghost use Rattle.tool.specs.Answers.{answerOf};
 ghost use Rattle.tool.specs.Parts.{lastOf, answerOfRequested, Gives};
-ghost use Rattle.tool.specs.Requests.{zeroNumber, askingOf, reading, transferring, programming, broadcasting, initialising, commandOf, broadcasts, addressable, limitOf, lentRightly, admission, numberOfAdmission, fieldsTo, waiting, keeping, running, progressOf, asked, sending, afterAsking};
+ghost use Rattle.tool.specs.Requests.{zeroNumber, askingOf, reading, transferring, programming, broadcasting, initialising, sentCommand, broadcasts, addressable, limitOf, lentRightly, admission, numberOfAdmission, fieldsTo, waiting, keeping, running, progressOf, asked, sending, afterAsking};
 use crate::Answer;
 use crate::Phase;
 use crate::Refusal;
@@ -73,8 +73,8 @@ impl Arguments {
     }
 }
 
-fn command_of(request: Request) -> Command
-    ensures { λ r. ⌜ r ≡ commandOf request ⌝ }
+fn sent_command(request: Request) -> Command
+    ensures { λ r. ⌜ r ≡ sentCommand request ⌝ }
 {
     match request {
         Request::Enq => Command::Enq,
@@ -262,7 +262,7 @@ impl Tool {
         let wake = self.wake_before(arguments);
         let next = self.asked(arguments, data);
         let request = arguments.request;
-        let sent = send(frame, command_of(request), arguments.fields(), data);
+        let sent = send(frame, sent_command(request), arguments.fields(), data);
         Requested {
             tool: next,
             answer: answer_to(request),

@@ -1,14 +1,14 @@
 // The tools that no call refuses with 12.
 ghost use mathlib.Core.Path.{_≡_};
-ghost use Rattle.tool.specs.Soundness.{fitting, sound};
+ghost use Rattle.tool.specs.Soundness.{withinRec, sound};
 use crate::Phase;
 use crate::Tool;
 use frame::sizes::MOST_PROGRAMMED;
 
 impl Phase {
     // Whether a programming request has sent no more DATA than a REC can have.
-    fn fitting(self) -> bool
-        ensures { λ r. ⌜ r ≡ fitting self ⌝ }
+    fn within_rec(self) -> bool
+        ensures { λ r. ⌜ r ≡ withinRec self ⌝ }
     {
         match self {
             Phase::Idle { last: _ } => true,
@@ -25,7 +25,7 @@ impl Tool {
         ensures { λ r. ⌜ r ≡ sound self ⌝ }
     {
         let phase = self.phase;
-        if !phase.fitting() {
+        if !phase.within_rec() {
             return false;
         }
         let receiver = self.receiver;

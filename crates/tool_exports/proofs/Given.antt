@@ -15,15 +15,15 @@ use Rattle.tool.specs.declared.Tool.{Tool}
 use Rattle.frame.specs.Sizes.{mostTransferred}
 use Rattle.tool.specs.Parts.{Response, Told, Gives}
 use Rattle.tool_memory.specs.Decoding.{decoded}
-use Rattle.tool_exports.specs.Outcomes.{stored, shown, shownOver, wakeMark, doneMark, requestShown, octetShown}
+use Rattle.tool_exports.specs.Outcomes.{stored, cellAfter, shownOver, wakeMark, doneMark, requestShown, octetShown}
 use Rattle.tool_exports.specs.Settling.{Settled, SettledOctet}
 
-pub shown-not : (n value before2 : ℕ) → (n ≡ none → ⊥) → before2 ≡ shown n value before2
-unfolding shown
+pub shown-not : (n value before2 : ℕ) → (n ≡ none → ⊥) → before2 ≡ cellAfter n value before2
+unfolding cellAfter
 shown-not n value before2 h = rw (ne-eqb n none h)
 
-pub shown-value : (n value before2 : ℕ) → n ≡ none → value ≡ shown n value before2
-unfolding shown
+pub shown-value : (n value before2 : ℕ) → n ≡ none → value ≡ cellAfter n value before2
+unfolding cellAfter
 shown-value n value before2 e = rw (eq-eqb n none e)
 
 pub over-not : (n : ℕ) (d before2 : List ℕ) → (n ≡ none → ⊥) → before2 ≡ shownOver n d before2

@@ -36,7 +36,7 @@ use Rattle.tool_memory.proofs.Fresh.{fresh-decoded}
 use Rattle.tool_memory.proofs.ToolPuts.{encoded-length}
 use Rattle.tool_memory.proofs.RoundTrip.{decoded-encoded}
 use Rattle.tool_memory.proofs.Storable.{Storable, fresh-storable, after-storable}
-use Rattle.tool_exports.specs.Outcomes.{stored, shown, wakeMark, doneMark, RequestLoan, OctetLoan, OctetOutcome, requestShown, octetShown, requestOutcome, octetOutcome, eventOutcome}
+use Rattle.tool_exports.specs.Outcomes.{stored, cellAfter, wakeMark, doneMark, RequestLoan, OctetLoan, OctetOutcome, requestShown, octetShown, requestOutcome, octetOutcome, eventOutcome}
 use Rattle.tool_exports.specs.Lists.{Export, Request, Octet, Gap, SessionEnd, callOf, left, memoryOf, wakeIn, read, reportIn, leftIn, logIn}
 use Rattle.tool_exports.specs.Claims.{SendsNothing, SendsAut}
 use Rattle.tool_exports.proofs.Left.{memory-left}
@@ -102,12 +102,12 @@ kind t x = go (plain t x)
     go (unnumbered p e) = without p e
 
 read-request : (r : Response) (lent : RequestLoan) (m : List ℕ) → Kind r → read (requestShown r m lent .number) (requestShown r m lent .loan .wake) (requestShown r m lent .loan .ended) ≡ reportOf r
-unfolding requestShown shown
+unfolding requestShown cellAfter
 read-request r lent m (with-number n e z w) = rw (e, z, w)
 read-request r lent m (without p e) = rw (e, wake-read (r .wake), done-read (isDone (given p)))
 
 read-octet : (r : Response) (lent : OctetLoan) (m : List ℕ) → r .wake ≡ None → Kind r → read (octetShown r m lent .number) 0 (octetShown r m lent .loan .ended) ≡ reportOf r
-unfolding octetShown shown
+unfolding octetShown cellAfter
 read-octet r lent m u (with-number n e z w) = rw (e, z, w)
 read-octet r lent m u (without p e) = rw (e, u, done-read (isDone (given p)))
 
@@ -161,11 +161,11 @@ exported-wake-ups-rightly h = rw (fresh-follow h .log) (wake-ups-rightly (map ca
 -- what an octet's response is, as its outcome shows it
 module _ (r : Response) (m : List ℕ) (lent : OctetLoan) where
   shows-nothing : r .frame ≡ [] → SendsNothing lent (octetShown r m lent)
-  unfolding octetShown shown fronted
+  unfolding octetShown cellAfter fronted
   shows-nothing e = record { buffer = rw e; length = λ z. rw (z, e) }
 
   shows-aut : (l : Log) (o : ℕ) → Authenticates l o (r .frame) → numberOf (r .answer) ≡ none → SendsAut l o lent (octetShown r m lent)
-  unfolding octetShown shown
+  unfolding octetShown cellAfter
   shows-aut l o a z = record { frame = r .frame; authenticates = a; number = z; told = rw z; buffer = refl }
 
 -- a response with a frame has no number

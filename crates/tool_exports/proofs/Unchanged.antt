@@ -12,7 +12,7 @@ use Rattle.tool.specs.declared.Tool.{Tool}
 use Rattle.frame.specs.Sizes.{longestFrame}
 use Rattle.tool.specs.Parts.{Response, refusing}
 use Rattle.tool.specs.Soundness.{sound}
-use Rattle.tool.specs.Requests.{Asking, lentRightly, admission, admitted, afterAsking}
+use Rattle.tool.specs.Requests.{Asking, lentRightly, admission, unlessRefused, afterAsking}
 use Rattle.tool.specs.Events.{afterOctet, afterGap, afterSessionEnd, Call, Ask, Octet, Gap, SessionEnd, after}
 use Rattle.tool.specs.Leaving.{KeepsAll, effectOf, leftAs, unmade}
 use Rattle.tool.proofs.Refusals.{refusal-leaves}
@@ -35,7 +35,7 @@ module _ (t : Tool) (e : sound t ≡ false) where
 
   -- every call on a tool that is not sound
   pub unsound-unmade : (x : Call) → Unmade (after t x)
-  unfolding after afterAsking admission admitted afterOctet afterGap afterSessionEnd
+  unfolding after afterAsking admission unlessRefused afterOctet afterGap afterSessionEnd
   unsound-unmade (Ask q l) = rw e (two (lentRightly (q .ads) (q .key) (q .na1) l))
   unsound-unmade (Octet o l) = rw e (two (leb longestFrame l))
   unsound-unmade Gap = rw e (broken refl)

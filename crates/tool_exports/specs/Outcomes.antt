@@ -23,8 +23,8 @@ unfoldable pub stored : ℕ → Tool → List ℕ → List ℕ
 stored number t m = cond (unmade number) m (encoded t m)
 
 -- a cell takes a value where the call gives no number, and stays as it was where it gives one
-unfoldable pub shown : ℕ → ℕ → ℕ → ℕ
-shown number value before = cond (eqb number none) value before
+unfoldable pub cellAfter : ℕ → ℕ → ℕ → ℕ
+cellAfter number value before = cond (eqb number none) value before
 
 -- octets that are lent for DATA: DATA over their front where the call gives no number
 unfoldable pub shownOver : ℕ → List ℕ → List ℕ → List ℕ
@@ -61,9 +61,9 @@ requestShown r m lent =
       loan =
           record {
             frame = fronted (r .frame) (lent .frame);
-            length = shown n (length (r .frame)) (lent .length);
-            wake = shown n (wakeMark (r .wake)) (lent .wake);
-            ended = shown n (doneMark (r .answer)) (lent .ended);
+            length = cellAfter n (length (r .frame)) (lent .length);
+            wake = cellAfter n (wakeMark (r .wake)) (lent .wake);
+            ended = cellAfter n (doneMark (r .answer)) (lent .ended);
           };
     }
 
@@ -89,10 +89,10 @@ octetShown r m lent =
       loan =
           record {
             frame = fronted (r .frame) (lent .frame);
-            length = shown n (length (r .frame)) (lent .length);
-            ended = shown n (doneMark (r .answer)) (lent .ended);
+            length = cellAfter n (length (r .frame)) (lent .length);
+            ended = cellAfter n (doneMark (r .answer)) (lent .ended);
             content = shownOver n (r .contents) (lent .content);
-            count = shown n (length (r .contents)) (lent .count);
+            count = cellAfter n (length (r .contents)) (lent .count);
           };
     }
 

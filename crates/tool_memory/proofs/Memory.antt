@@ -19,9 +19,9 @@ use Rattle.receiver_memory.proofs.Fields.{length-field}
 use Rattle.receiver_memory.proofs.Puts.{Held, spared}
 use Rattle.receiver_memory.proofs.Receiver.{image-decoded}
 use Rattle.frame.specs.Sizes.{addressWidth, numberWidth, mostProgrammed, mostTransferred}
-use Rattle.tool.specs.Soundness.{fitting, sound}
+use Rattle.tool.specs.Soundness.{withinRec, sound}
 use Rattle.tool_memory.specs.Layout.{markAt, tabAt, lengthAt, adsAt, adpAt, keyAt, na1At, sentAt, stationAt, successesAt, receiverAt, receiverMarkAt, receiverCountAt, size}
-use Rattle.tool_memory.specs.Marks.{programmingMark, lastMark, unused, phaseOf, markOf, tabOf, lengthOf}
+use Rattle.tool_memory.specs.Marks.{programmingMark, lastMark, unused, phaseOf, markOf, tabOf, sentLengthOf}
 use Rattle.tool_memory.specs.Decoding.{marksInUse, wakingIn, decoded, soundMemory}
 use Rattle.tool_memory.specs.Encoding.{encoded}
 use Rattle.tool_memory.proofs.PhaseMarks.{Back, octets-back, fitting-of}
@@ -48,7 +48,7 @@ unfolding sound decoded soundMemory
 sound-decoded m = go (marksInUse m) refl
   where
     go : (b : Bool) → marksInUse m ≡ b
-        → (fitting (cond b (phaseOf (getD m markAt 0) (getD m tabAt 0) (getD m lengthAt 0)) unused) && receiver.sound (receiver-memory.decoded (partOf m receiverAt size))) ≡ (b && ((not (eqb (getD m markAt 0) programmingMark) || leb (getD m lengthAt 0) mostProgrammed) && receiver.sound (receiver-memory.decoded (partOf m receiverAt size))))
+        → (withinRec (cond b (phaseOf (getD m markAt 0) (getD m tabAt 0) (getD m lengthAt 0)) unused) && receiver.sound (receiver-memory.decoded (partOf m receiverAt size))) ≡ (b && ((not (eqb (getD m markAt 0) programmingMark) || leb (getD m lengthAt 0) mostProgrammed) && receiver.sound (receiver-memory.decoded (partOf m receiverAt size))))
     go true e = rw (fitting-of (getD m markAt 0) (getD m tabAt 0) (getD m lengthAt 0) (used m e .request))
     go false e = refl
 
@@ -79,7 +79,7 @@ module _ (m : List ℕ) (sized : length m ≡ size) (u : marksInUse m ≡ true) 
   pub tab-held : Held m (put tabAt (tabOf (decoded m .phase) (getD m tabAt 0) ∷ []))
   tab-held = octet-held m tabAt _ (rw phase-in (back .tab-back))
 
-  pub length-held : Held m (put lengthAt (lengthOf (decoded m .phase) (getD m lengthAt 0) ∷ []))
+  pub length-held : Held m (put lengthAt (sentLengthOf (decoded m .phase) (getD m lengthAt 0) ∷ []))
   length-held = octet-held m lengthAt _ (rw phase-in (back .length-back))
 
   receiver-held : Held m (put receiverAt (receiver-memory.image (decoded m .receiver)))

@@ -10,8 +10,8 @@ use Rattle.receiver_memory.proofs.Fields.{narrowed-fits}
 use Rattle.tool.specs.declared.Phase.{Phase}
 use Rattle.tool.specs.declared.Phase.the-variants.{Idle, Reading, Transferring, Programming, Authenticating}
 use Rattle.frame.specs.Sizes.{mostProgrammed}
-use Rattle.tool.specs.Soundness.{sentLength, fitting}
-use Rattle.tool_memory.specs.Marks.{programmingMark, lastMark, phaseOf, markOf, tabOf, lengthOf}
+use Rattle.tool.specs.Soundness.{sentLength, withinRec}
+use Rattle.tool_memory.specs.Marks.{programmingMark, lastMark, phaseOf, markOf, tabOf, sentLengthOf}
 
 pub mark-used : (p : Phase) → markOf p ≤ lastMark
 mark-used (Idle EnqTrf) = lit≤ tt
@@ -21,7 +21,7 @@ mark-used Transferring = lit≤ tt
 mark-used (Programming tab n) = lit≤ tt
 mark-used Authenticating = lit≤ tt
 
-pub phase-back : (p : Phase) (tab n : ℕ) → sentLength p < 256 → phaseOf (markOf p) (tabOf p tab) (lengthOf p n) ≡ p
+pub phase-back : (p : Phase) (tab n : ℕ) → sentLength p < 256 → phaseOf (markOf p) (tabOf p tab) (sentLengthOf p n) ≡ p
 unfolding phaseOf
 phase-back (Idle EnqTrf) tab n h = refl
 phase-back (Idle Other) tab n h = refl
@@ -34,7 +34,7 @@ phase-back Authenticating tab n h = refl
 pub record Back (mark tab n : ℕ) : Type 0 where
   pub mark-back : markOf (phaseOf mark tab n) ≡ mark
   pub tab-back : tabOf (phaseOf mark tab n) tab ≡ tab
-  pub length-back : lengthOf (phaseOf mark tab n) n ≡ n
+  pub length-back : sentLengthOf (phaseOf mark tab n) n ≡ n
 
 pub octets-back : (mark tab n : ℕ) → mark ≤ lastMark → n < 256 → Back mark tab n
 unfolding phaseOf
@@ -47,7 +47,7 @@ octets-back (suc (suc (suc (suc (suc zero))))) tab n h k = record { mark-back = 
 octets-back (suc (suc (suc (suc (suc (suc j)))))) tab n h k = impossible (omega arith)
 
 -- only a programming request has a length
-pub fitting-of : (mark tab n : ℕ) → mark ≤ lastMark → fitting (phaseOf mark tab n) ≡ (not (eqb mark programmingMark) || leb n mostProgrammed)
+pub fitting-of : (mark tab n : ℕ) → mark ≤ lastMark → withinRec (phaseOf mark tab n) ≡ (not (eqb mark programmingMark) || leb n mostProgrammed)
 unfolding phaseOf
 fitting-of zero tab n h = refl
 fitting-of (suc zero) tab n h = refl

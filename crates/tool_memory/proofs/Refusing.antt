@@ -17,7 +17,7 @@ use Rattle.tool.specs.declared.Tool.{Tool}
 use Rattle.frame.specs.Sizes.{addressWidth, numberWidth, mostTransferred}
 use Rattle.tool.specs.Parts.{inPhase, withReceiver, ended}
 use Rattle.tool_memory.specs.Layout.{markAt, tabAt, lengthAt, adsAt, adpAt, keyAt, na1At, sentAt, stationAt, successesAt, receiverAt, receiverCountAt, size, OutsideReceiver}
-use Rattle.tool_memory.specs.Marks.{markOf, tabOf, lengthOf}
+use Rattle.tool_memory.specs.Marks.{markOf, tabOf, sentLengthOf}
 use Rattle.tool_memory.specs.Decoding.{marksInUse, wakingIn, decoded}
 use Rattle.tool_memory.specs.Encoding.{encoded}
 use Rattle.tool_memory.proofs.ToolPuts.{toolPuts, as-puts, octet-held, field-held}
@@ -32,7 +32,7 @@ module _ (m : List ℕ) (sized : length m ≡ size) (r : Receiver) (long : lengt
   outside j (inl h) = inl (inl h)
   outside j (inr h) = inl (inr (omega (arith, image-length r long)))
 
-  next-alters : (p : Phase) (j : ℕ) → OutsideReceiver j → Spares m j (put markAt (markOf p ∷ [])) → Held m (put tabAt (tabOf p (getD m tabAt 0) ∷ [])) → Held m (put lengthAt (lengthOf p (getD m lengthAt 0) ∷ []))
+  next-alters : (p : Phase) (j : ℕ) → OutsideReceiver j → Spares m j (put markAt (markOf p ∷ [])) → Held m (put tabAt (tabOf p (getD m tabAt 0) ∷ [])) → Held m (put lengthAt (sentLengthOf p (getD m lengthAt 0) ∷ []))
       → getD (encoded (next p) m) j 0 ≡ getD m j 0
   unfolding decoded wakingIn
   next-alters p j o a b c =

@@ -18,7 +18,7 @@ use Rattle.tool.specs.declared.Tool.{Tool}
 use Rattle.frame.specs.Sizes.{addressWidth, numberWidth, mostTransferred}
 use Rattle.tool.specs.Soundness.{sentLength}
 use Rattle.tool_memory.specs.Layout.{markAt, tabAt, lengthAt, adsAt, adpAt, keyAt, na1At, sentAt, stationAt, successesAt, receiverAt, receiverMarkAt, size}
-use Rattle.tool_memory.specs.Marks.{unused, phaseOf, markOf, tabOf, lengthOf}
+use Rattle.tool_memory.specs.Marks.{unused, phaseOf, markOf, tabOf, sentLengthOf}
 use Rattle.tool_memory.specs.Decoding.{marksInUse, wakingIn, decoded}
 use Rattle.tool_memory.specs.Encoding.{encoded}
 use Rattle.tool_memory.proofs.Shape.{Shaped}
@@ -41,7 +41,7 @@ module _ (t : Tool) (m : List ℕ) (sized : length m ≡ size) (s : Shaped t) wh
   tab-at : getD (encoded t m) tabAt 0 ≡ tabOf (t .phase) (getD m tabAt 0)
   tab-at = octet-back tabAt _ (later here)
 
-  length-at : getD (encoded t m) lengthAt 0 ≡ lengthOf (t .phase) (getD m lengthAt 0)
+  length-at : getD (encoded t m) lengthAt 0 ≡ sentLengthOf (t .phase) (getD m lengthAt 0)
   length-at = octet-back lengthAt _ (later (later here))
 
   adp-at : getD (encoded t m) adpAt 0 ≡ t .adp

@@ -6,14 +6,14 @@ use Rattle.receiver_memory.specs.Receiver as receiver-memory
 use Rattle.receiver_memory.specs.Puts.{Put, put, putAll}
 use Rattle.tool.specs.declared.Tool.{Tool}
 use Rattle.tool_memory.specs.Layout.{markAt, tabAt, lengthAt, adsAt, adpAt, keyAt, na1At, sentAt, stationAt, successesAt, receiverAt}
-use Rattle.tool_memory.specs.Marks.{markOf, tabOf, lengthOf}
+use Rattle.tool_memory.specs.Marks.{markOf, tabOf, sentLengthOf}
 
 -- the mark of the request with its TAB and its length
 abbrev pub markPuts : Tool → List ℕ → List Put
 markPuts t m =
     put markAt (markOf (t .phase) ∷ [])
     ∷ put tabAt (tabOf (t .phase) (getD m tabAt 0) ∷ [])
-    ∷ put lengthAt (lengthOf (t .phase) (getD m lengthAt 0) ∷ [])
+    ∷ put lengthAt (sentLengthOf (t .phase) (getD m lengthAt 0) ∷ [])
     ∷ []
 
 -- the station and the ADP that the request goes to

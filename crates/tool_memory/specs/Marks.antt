@@ -67,9 +67,9 @@ tabOf Transferring was = was
 tabOf (Programming tab n) was = tab
 tabOf Authenticating was = was
 
-abbrev pub lengthOf : Phase → ℕ → ℕ
-lengthOf (Idle last) was = was
-lengthOf (Reading tab) was = was
-lengthOf Transferring was = was
-lengthOf (Programming tab n) was = narrowed (n .0)
-lengthOf Authenticating was = was
+abbrev pub sentLengthOf : Phase → ℕ → ℕ
+sentLengthOf (Idle last) was = was
+sentLengthOf (Reading tab) was = was
+sentLengthOf Transferring was = was
+sentLengthOf (Programming tab n) was = narrowed (n .0)
+sentLengthOf Authenticating was = was

@@ -24,9 +24,9 @@ use layout::STATION_AT;
 use layout::SUCCESSES_AT;
 use layout::TAB_AT;
 use marks::LAST_MARK;
-use marks::length_of;
 use marks::mark_of;
 use marks::phase_of;
+use marks::sent_length_of;
 use marks::tab_of;
 use marks::unused;
 use tool::Phase;
@@ -102,7 +102,7 @@ fn put_mark(memory: &mut [u8], tool: Tool)
     let phase = tool.phase;
     octets::put(memory, MARK_AT, &[mark_of(phase)]);
     octets::put(memory, TAB_AT, &[tab_of(phase, tab)]);
-    octets::put(memory, LENGTH_AT, &[length_of(phase, length)]);
+    octets::put(memory, LENGTH_AT, &[sent_length_of(phase, length)]);
 }
 
 // The station and the ADP of the request.

@@ -1,6 +1,6 @@
 // The mark of the request, with its TAB and its length. `specs/Marks.antt` has the same names.
 ghost use mathlib.Core.Path.{_≡_};
-ghost use Rattle.tool_memory.specs.Marks.{unused, phaseOf, idleMarkOf, markOf, tabOf, lengthOf};
+ghost use Rattle.tool_memory.specs.Marks.{unused, phaseOf, idleMarkOf, markOf, tabOf, sentLengthOf};
 use numbers::Octets;
 use receiver_memory::narrowed;
 use tool::Phase;
@@ -84,8 +84,8 @@ pub(crate) fn tab_of(phase: Phase, was: u8) -> u8
 }
 
 // The length of a phase, or what stood there.
-pub(crate) fn length_of(phase: Phase, was: u8) -> u8
-    ensures { λ r. ⌜ r ≡ lengthOf phase was ⌝ }
+pub(crate) fn sent_length_of(phase: Phase, was: u8) -> u8
+    ensures { λ r. ⌜ r ≡ sentLengthOf phase was ⌝ }
 {
     match phase {
         Phase::Idle { last: _ } => was,

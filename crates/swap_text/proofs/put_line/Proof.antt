@@ -3,7 +3,7 @@ use mathlib.Core.Path.{ap, _∙_}
 use denote.Ref.{now}
 use Rattle.octets.specs.Splice.{spliced}
 use Rattle.numbers.specs.Counts.{inOctets}
-use Rattle.text.specs.Text.{after}
+use Rattle.text.specs.Text.{offsetAfter}
 use Rattle.swap_text.proofs.Whole.{with-feed}
 use borrow.Author.Needs.{needs}
 use Rattle.swap_text.proofs.put_line.Statement.{statement}
@@ -34,7 +34,7 @@ returns c =
     let n = p .before .before .before .before .before in
     let s = n .before .before .before .before .before in
     let e = p .part .ensures ∙ with-feed _ _ _ _ (s .pre) (n .put-words .ensures) in
-    (ap inOctets (w .put-words2 .ensures .0 ∙ ap (after (now (s .args .buffer)) (s .args .at .0)) e), w .put-words2 .ensures .1 ∙ ap (spliced (now (s .args .buffer)) (s .args .at .0)) e)
+    (ap inOctets (w .put-words2 .ensures .0 ∙ ap (offsetAfter (now (s .args .buffer)) (s .args .at .0)) e), w .put-words2 .ensures .1 ∙ ap (spliced (now (s .args .buffer)) (s .args .at .0)) e)
 
 pub put-line-spec : {M : Type 1} → statement M
 put-line-spec =

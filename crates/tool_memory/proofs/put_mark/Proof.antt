@@ -28,8 +28,8 @@ slice-aggregate-put-2 c = search needs
 put-requires-2 : tie.Need-put-requires-2
 put-requires-2 c κs = search needs
 
-length-of-requires : tie.Need-length-of-requires
-length-of-requires c κs = search needs
+sent-length-of-requires : tie.Need-sent-length-of-requires
+sent-length-of-requires c κs = search needs
 
 slice-aggregate-put-3 : tie.Need-slice-aggregate-put-3
 slice-aggregate-put-3 c = search needs
@@ -42,7 +42,7 @@ same-length c = search needs
 
 returns : tie.Need-returns
 unfolding putAll
-returns c = rw (c .before .before .put3 .ensures, c .before .before .before .before .before .before .before .before .put2 .ensures, c .before .before .before .before .before .before .before .before .before .before .before .before .before .before .put .ensures, c .before .before .before .before .length-of .ensures, c .before .before .before .before .before .before .before .before .before .before .tab-of .ensures, c .before .before .before .before .before .before .before .before .before .before .before .before .before .before .before .before .mark-of .ensures, c .before .before .before .before .before .before .before .before .before .before .before .before .before .before .before .before .before .before .octet2 .ensures, c .before .before .before .before .before .before .before .before .before .before .before .before .before .before .before .before .before .before .before .before .octet .ensures)
+returns c = rw (c .before .before .put3 .ensures, c .before .before .before .before .before .before .before .before .put2 .ensures, c .before .before .before .before .before .before .before .before .before .before .before .before .before .before .put .ensures, c .before .before .before .before .sent-length-of .ensures, c .before .before .before .before .before .before .before .before .before .before .tab-of .ensures, c .before .before .before .before .before .before .before .before .before .before .before .before .before .before .before .before .mark-of .ensures, c .before .before .before .before .before .before .before .before .before .before .before .before .before .before .before .before .before .before .octet2 .ensures, c .before .before .before .before .before .before .before .before .before .before .before .before .before .before .before .before .before .before .before .before .octet .ensures)
 
 pub put-mark-spec : {M : Type 1} → statement M
 put-mark-spec =
@@ -56,7 +56,7 @@ put-mark-spec =
     tab-of-requires
     slice-aggregate-put-2
     put-requires-2
-    length-of-requires
+    sent-length-of-requires
     slice-aggregate-put-3
     put-requires-3
     same-length

@@ -12,12 +12,12 @@ returns : tie.Need-returns
 unfolding sound
 returns c = rw (← c .before .broadcast .ensures, c .if1 .taken)
 
-fitting-requires : tie.Need-fitting-requires
-fitting-requires c κs = search needs
+within-rec-requires : tie.Need-within-rec-requires
+within-rec-requires c κs = search needs
 
 returns-2 : tie.Need-returns-2
 unfolding sound
-returns-2 c = rw (← c .before .before .before .before .broadcast .ensures, c .before .before .before .if1 .left, ← c .before .fitting .ensures, not-true (c .before .fitting .result) (c .if2 .taken))
+returns-2 c = rw (← c .before .before .before .before .broadcast .ensures, c .before .before .before .if1 .left, ← c .before .within-rec .ensures, not-true (c .before .within-rec .result) (c .if2 .taken))
 
 is-sound-requires : tie.Need-is-sound-requires
 is-sound-requires c κs = search needs
@@ -25,7 +25,7 @@ is-sound-requires c κs = search needs
 returns-3 : tie.Need-returns-3
 unfolding sound
 returns-3 c =
-    rw (← c .before .before .before .before .before .before .before .broadcast .ensures, c .before .before .before .before .before .before .if1 .left, ← c .before .before .before .before .fitting .ensures, not-false (c .before .before .before .before .fitting .result) (c .before .before .before .if2 .left), ← c .before .is-sound .ensures, not-true (c .before .is-sound .result) (c .if3 .taken))
+    rw (← c .before .before .before .before .before .before .before .broadcast .ensures, c .before .before .before .before .before .before .if1 .left, ← c .before .before .before .before .within-rec .ensures, not-false (c .before .before .before .before .within-rec .result) (c .before .before .before .if2 .left), ← c .before .is-sound .ensures, not-true (c .before .is-sound .result) (c .if3 .taken))
 
 sound-requires : tie.Need-sound-requires
 sound-requires c κs = search needs
@@ -33,8 +33,8 @@ sound-requires c κs = search needs
 returns-4 : tie.Need-returns-4
 unfolding sound
 returns-4 c =
-    rw (← c .before .before .before .before .before .before .before .before .before .broadcast .ensures, c .before .before .before .before .before .before .before .before .if1 .left, ← c .before .before .before .before .before .before .fitting .ensures, not-false (c .before .before .before .before .before .before .fitting .result) (c .before .before .before .before .before .if2 .left), ← c .before .before .before .is-sound .ensures, not-false (c .before .before .before .is-sound .result) (c .before .before .if3 .left))
+    rw (← c .before .before .before .before .before .before .before .before .before .broadcast .ensures, c .before .before .before .before .before .before .before .before .if1 .left, ← c .before .before .before .before .before .before .within-rec .ensures, not-false (c .before .before .before .before .before .before .within-rec .result) (c .before .before .before .before .before .if2 .left), ← c .before .before .before .is-sound .ensures, not-false (c .before .before .before .is-sound .result) (c .before .before .if3 .left))
     (c .sound .ensures)
 
 pub sound-spec : {M : Type 1} → statement M
-sound-spec = tie.close (tie.spec broadcast-requires returns fitting-requires returns-2 is-sound-requires returns-3 sound-requires returns-4)
+sound-spec = tie.close (tie.spec broadcast-requires returns within-rec-requires returns-2 is-sound-requires returns-3 sound-requires returns-4)

@@ -3,7 +3,7 @@ use Prim.Native.Nat.{ℕ}
 use mathlib.Core.Path.{_≡_, ap, _∙_}
 use denote.Ref.{now}
 use borrow.Author.Tests.{lt-leb, le-leb, ne-eqb}
-use Rattle.card_exports.specs.Setup.{judged, setupNumber, setupOutcome}
+use Rattle.card_exports.specs.Setup.{numberWithKinds, setupNumber, setupOutcome}
 use Rattle.card_exports.proofs.Judging.{setup-judged}
 use borrow.Author.Needs.{needs}
 use Rattle.card_exports.proofs.setup.propolisk_card_setup.Statement.{statement}
@@ -13,7 +13,7 @@ judged-number : (c : tie.After-judge) → c .judge .result ≡ setupNumber (now 
 judged-number c =
     let s = c .before .before in
     c .judge .ensures
-    ∙ ap (λ (n : ℕ). judged n (c .before .entry-kinds-known .result)) (s .setup .ensures .number)
+    ∙ ap (λ (n : ℕ). numberWithKinds n (c .before .entry-kinds-known .result)) (s .setup .ensures .number)
     ∙ rw (c .before .entry-kinds-known .ensures, s .before .entries .ensures) (setup-judged _ _ _ _)
 
 returns : tie.Need-returns

@@ -2,7 +2,7 @@
 use mathlib.Core.Path.{_≡_, sym, ap, _∙_}
 use denote.Ref.{now}
 use Rattle.numbers.specs.Counts.{inOctets}
-use Rattle.number.specs.Groups.{frontOf, found}
+use Rattle.number.specs.Groups.{frontNumber, found}
 use Rattle.number.specs.Answers.{answerOfReading}
 use Rattle.number.proofs.Forms.{read-front, read-faulty}
 use Rattle.number.proofs.Fronts.{front-within}
@@ -13,7 +13,7 @@ use Rattle.swap.proofs.file.judge.Statement.{statement}
 use Rattle.swap.proofs.file.judge.Tie as tie
 
 -- the count that was read, as the number at the front
-count-read : (c : tie.After-value) → let s = now (c .before .before .before .before .before .args .file) in frontOf s ≡ found (c .value .given .0 .0) (c .value .given .0 .1 .0 .0)
+count-read : (c : tie.After-value) → let s = now (c .before .before .before .before .before .args .file) in frontNumber s ≡ found (c .value .given .0 .0) (c .value .given .0 .1 .0 .0)
 count-read c =
     let s = now (c .before .before .before .before .before .args .file) in
     let r = read-front s 0 (c .value .given .0 .0) (c .value .given .0 .1 .0 .0) (sym (c .before .before .read .ensures) ∙ ap (answerOfReading (inOctets 0)) (c .value .given .1)) in

@@ -5,7 +5,7 @@ use mathlib.Core.List.{List}
 use lib.ListN.{length, getD, take, drop}
 use denote.Ref.{now}
 use Rattle.swap.specs.Record.{rankOf}
-use Rattle.swap.specs.Reading.{answered, readRecords}
+use Rattle.swap.specs.Reading.{answerOfListing, readRecords}
 use Rattle.swap.proofs.Ranks.{rank-rest-below}
 use Rattle.swap.proofs.Parts.{part-rest}
 use Rattle.swap.proofs.Tally.{Tallied, tally-start, tally-bad, tally-good, tally-rest, tally-end}
@@ -15,13 +15,13 @@ use Rattle.swap.proofs.file.judge_records.Statement.{statement}
 use Rattle.swap.proofs.file.judge_records.Tie as tie
 
 abbrev Inv-loop : tie.InvT-loop
-Inv-loop file start count at₀ left₀ least₀ at left least = Tallied file count (answered (readRecords count 0 start (drop start file))) at left least
+Inv-loop file start count at₀ left₀ least₀ at left least = Tallied file count (answerOfListing (readRecords count 0 start (drop start file))) at left least
 
 abbrev μ-loop : tie.MeasureT-loop
 μ-loop file start count at₀ left₀ least₀ at left least = left
 
 -- the tally after a good record
-next-tally : (c : tie.After-known-told2 Inv-loop μ-loop) → let l = c .before .before .before .before .before .loop in let a = c .before .before .before .before .before .before .before .args in let e = c .before .item2 .given .0 .0 in Tallied (now (a .file)) (a .count) (answered (readRecords (a .count) 0 (a .start) (drop (a .start) (now (a .file))))) (e .from .0 + e .length .0) (l .left - 1) (rankOf (take 7 (drop (l .at) (now (a .file)))) + 1)
+next-tally : (c : tie.After-known-told2 Inv-loop μ-loop) → let l = c .before .before .before .before .before .loop in let a = c .before .before .before .before .before .before .before .args in let e = c .before .item2 .given .0 .0 in Tallied (now (a .file)) (a .count) (answerOfListing (readRecords (a .count) 0 (a .start) (drop (a .start) (now (a .file))))) (e .from .0 + e .length .0) (l .left - 1) (rankOf (take 7 (drop (l .at) (now (a .file)))) + 1)
 next-tally c =
     let i = c .before .before .before in
     let l = i .before .before .loop in

@@ -5,11 +5,11 @@ use lib.ListN.{length, take, drop, length-drop}
 use borrow.Author.Tests.{not-true, not-false}
 use denote.Ref.{now}
 use Rattle.numbers.specs.Counts.{inOctets}
-use Rattle.number.specs.Groups.{frontOf, found}
+use Rattle.number.specs.Groups.{frontNumber, found}
 use Rattle.number.specs.Answers.{answerOfReading}
 use Rattle.number.proofs.Forms.{read-front, read-faulty}
 use Rattle.number.proofs.Fronts.{front-within}
-use Rattle.swap.specs.Record.{acceptable}
+use Rattle.swap.specs.Record.{fitsKind}
 use Rattle.swap.proofs.Parts.{part-count}
 use Rattle.swap.proofs.Judging.{content-none, content-long, content-cut, content-ill, content-good}
 use native.Mathlib.Omega.{arith}
@@ -18,7 +18,7 @@ use Rattle.swap.proofs.item.content_at.Statement.{statement}
 use Rattle.swap.proofs.item.content_at.Tie as tie
 
 -- the length that was read, as the number at the front, and the offset after it
-length-read : (c : tie.After-value) → let a = c .before .before .before .before .args in (w : ℕ) × (frontOf (drop (a .at + 8) (now (a .file))) ≡ found (c .value .given .0 .0) w) × (c .value .given .0 .1 .0 .0 ≡ a .at + 8 + w)
+length-read : (c : tie.After-value) → let a = c .before .before .before .before .args in (w : ℕ) × (frontNumber (drop (a .at + 8) (now (a .file))) ≡ found (c .value .given .0 .0) w) × (c .value .given .0 .1 .0 .0 ≡ a .at + 8 + w)
 length-read c =
     let a = c .before .before .before .before .args in
     read-front (now (a .file)) (a .at + 8) (c .value .given .0 .0) (c .value .given .0 .1 .0 .0) (sym (c .before .before .read .ensures) ∙ ap (answerOfReading (inOctets (a .at + 8))) (c .value .given .1))
@@ -30,11 +30,11 @@ next-within c =
     omega (arith, r .2, front-within _ _ _ (r .1) .0, front-within _ _ _ (r .1) .1, length-drop (a .at + 8) (now (a .file)))
 
 -- what was judged of the data
-content-judged : (c : tie.After-is-acceptable) → let v = c .before .before .before .before .before .before .before in let a = v .before .before .before .before .args in c .is-acceptable .result ≡ acceptable (a .kind) (take (v .value .given .0 .0) (drop (v .value .given .0 .1 .0 .0) (now (a .file))))
+content-judged : (c : tie.After-fits-kind) → let v = c .before .before .before .before .before .before .before in let a = v .before .before .before .before .args in c .fits-kind .result ≡ fitsKind (a .kind) (take (v .value .given .0 .0) (drop (v .value .given .0 .1 .0 .0) (now (a .file))))
 content-judged c =
     let v = c .before .before .before .before .before .before .before in
     let a = v .before .before .before .before .args in
-    c .is-acceptable .ensures ∙ ap (acceptable (a .kind)) (part-count (now (a .file)) (v .value .given .0 .1 .0 .0) (v .value .given .0 .0))
+    c .fits-kind .ensures ∙ ap (fitsKind (a .kind)) (part-count (now (a .file)) (v .value .given .0 .1 .0 .0) (v .value .given .0 .0))
 
 add-if2 : tie.Need-add-if2
 add-if2 c = search needs
@@ -80,17 +80,17 @@ returns-3 c =
 add-end : tie.Need-add-end
 add-end c = search needs
 
-sub-is-acceptable : tie.Need-sub-is-acceptable
-sub-is-acceptable c = search needs
+sub-fits-kind : tie.Need-sub-fits-kind
+sub-fits-kind c = search needs
 
-part-is-acceptable-start : tie.Need-part-is-acceptable-start
-part-is-acceptable-start c = search needs
+part-fits-kind-start : tie.Need-part-fits-kind-start
+part-fits-kind-start c = search needs
 
-part-is-acceptable-end : tie.Need-part-is-acceptable-end
-part-is-acceptable-end c = omega (arith, next-within (c .before .before .before .before .before), c .if2 .left)
+part-fits-kind-end : tie.Need-part-fits-kind-end
+part-fits-kind-end c = omega (arith, next-within (c .before .before .before .before .before), c .if2 .left)
 
-is-acceptable-requires : tie.Need-is-acceptable-requires
-is-acceptable-requires c κs = search needs
+fits-kind-requires : tie.Need-fits-kind-requires
+fits-kind-requires c κs = search needs
 
 returns-4 : tie.Need-returns-4
 returns-4 c =
@@ -134,10 +134,10 @@ content-at-spec =
     sub-if2
     returns-3
     add-end
-    sub-is-acceptable
-    part-is-acceptable-start
-    part-is-acceptable-end
-    is-acceptable-requires
+    sub-fits-kind
+    part-fits-kind-start
+    part-fits-kind-end
+    fits-kind-requires
     returns-4
     add-t14
     shared-slice-read-t21

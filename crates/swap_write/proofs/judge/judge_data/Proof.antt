@@ -34,13 +34,13 @@ returns-2 c =
     ap (λ (w : ℕ). Bad (inOctets (8 + w))) (c .width-of .ensures)
     ∙ data-cut (a .kind) (a .stated .0) (now (a .contents)) (rw (← e .before .before .length-limit .ensures) (e .if1 .left)) (c .before .if2 .taken)
 
-slice-aggregate-is-acceptable : tie.Need-slice-aggregate-is-acceptable
-slice-aggregate-is-acceptable c =
+slice-aggregate-fits-kind : tie.Need-slice-aggregate-fits-kind
+slice-aggregate-fits-kind c =
     let a = c .before .before .before .before .before .before .args in
     sym (length-take-le (a .stated .0) (now (a .contents)) (c .before .if2 .left))
 
-is-acceptable-requires : tie.Need-is-acceptable-requires
-is-acceptable-requires c κs = search needs
+fits-kind-requires : tie.Need-fits-kind-requires
+fits-kind-requires c κs = search needs
 
 width-of-requires-2 : tie.Need-width-of-requires-2
 width-of-requires-2 c κs = search needs
@@ -54,14 +54,14 @@ returns-3 c =
     let e = q .before .before .before in
     let a = e .before .before .before .before .args in
     ap (λ (w : ℕ). Bad (inOctets (8 + w))) (c .width-of2 .ensures)
-    ∙ data-ill (a .kind) (a .stated .0) (now (a .contents)) (rw (← e .before .before .length-limit .ensures) (e .if1 .left)) (sym (q .is-acceptable .ensures) ∙ not-true _ (c .before .if3 .taken))
+    ∙ data-ill (a .kind) (a .stated .0) (now (a .contents)) (rw (← e .before .before .length-limit .ensures) (e .if1 .left)) (sym (q .fits-kind .ensures) ∙ not-true _ (c .before .if3 .taken))
 
 returns-4 : tie.Need-returns-4
 returns-4 c =
     let q = c .before in
     let e = q .before .before .before in
     let a = e .before .before .before .before .args in
-    data-good (a .kind) (a .stated .0) (now (a .contents)) (rw (← e .before .before .length-limit .ensures) (e .if1 .left)) (q .before .before .if2 .left) (sym (q .is-acceptable .ensures) ∙ not-false _ (c .if3 .left))
+    data-good (a .kind) (a .stated .0) (now (a .contents)) (rw (← e .before .before .length-limit .ensures) (e .if1 .left)) (q .before .before .if2 .left) (sym (q .fits-kind .ensures) ∙ not-false _ (c .if3 .left))
 
 pub judge-data-spec : {M : Type 1} → statement M
 judge-data-spec =
@@ -72,8 +72,8 @@ judge-data-spec =
     width-of-requires
     add-t10
     returns-2
-    slice-aggregate-is-acceptable
-    is-acceptable-requires
+    slice-aggregate-fits-kind
+    fits-kind-requires
     width-of-requires-2
     add-t16
     returns-3

@@ -6,7 +6,7 @@ use lib.ListN.{length, getD, take, drop}
 use denote.Ref.{now}
 use Rattle.number.specs.Groups.{encoded}
 use Rattle.swap.specs.Record.{rankOf}
-use Rattle.swap.specs.Reading.{answered, readRecords}
+use Rattle.swap.specs.Reading.{answerOfListing, readRecords}
 use Rattle.swap.proofs.Ranks.{rank-rest-below}
 use Rattle.swap.proofs.Parts.{part-rest, length-rest}
 use Rattle.swap_write.specs.Heads.{bodyOf}
@@ -19,7 +19,7 @@ use Rattle.swap_write.proofs.judge.judge_heads.Statement.{statement}
 use Rattle.swap_write.proofs.judge.judge_heads.Tie as tie
 
 abbrev Inv-loop : tie.InvT-loop
-Inv-loop heads contents count at₀ left₀ least₀ head₀ from₀ at left least head from = Judging heads contents count (answered (readRecords count 0 (length (encoded count)) (bodyOf count heads contents))) at left least head from
+Inv-loop heads contents count at₀ left₀ least₀ head₀ from₀ at left least head from = Judging heads contents count (answerOfListing (readRecords count 0 (length (encoded count)) (bodyOf count heads contents))) at left least head from
 
 abbrev μ-loop : tie.MeasureT-loop
 μ-loop heads contents count at₀ left₀ least₀ head₀ from₀ at left least head from = left
@@ -42,7 +42,7 @@ rank-made c =
     c .rank .ensures ∙ ap (λ (t : List ℕ). rankOf (take 7 t)) (part-rest (now (a .heads)) (l .head))
 
 -- the tally after a good head
-next-judging : (c : tie.After-judged2 Inv-loop μ-loop) → let h = c .before .before in let l = h .before .before .before .before .loop in let a = h .before .before .before .before .before .before .before .before .args in let n = c .judged2 .given .0 .0 .0 in Judging (now (a .heads)) (now (a .contents)) (a .count) (answered (readRecords (a .count) 0 (length (encoded (a .count))) (bodyOf (a .count) (now (a .heads)) (now (a .contents))))) (l .at + (8 + length (encoded n) + n)) (l .left - 1) (rankOf (take 7 (drop (l .head) (now (a .heads)))) + 1) (l .head + 10) (l .from + n)
+next-judging : (c : tie.After-judged2 Inv-loop μ-loop) → let h = c .before .before in let l = h .before .before .before .before .loop in let a = h .before .before .before .before .before .before .before .before .args in let n = c .judged2 .given .0 .0 .0 in Judging (now (a .heads)) (now (a .contents)) (a .count) (answerOfListing (readRecords (a .count) 0 (length (encoded (a .count))) (bodyOf (a .count) (now (a .heads)) (now (a .contents))))) (l .at + (8 + length (encoded n) + n)) (l .left - 1) (rankOf (take 7 (drop (l .head) (now (a .heads)))) + 1) (l .head + 10) (l .from + n)
 next-judging c =
     let h = c .before .before in
     let l = h .before .before .before .before .loop in

@@ -7,7 +7,7 @@ use lib.Seq.{length-take-le}
 use denote.Ref.{now}
 use Rattle.octets.specs.Splice.{spliced}
 use Rattle.numbers.specs.Counts.{inOctets}
-use Rattle.number.specs.Groups.{encoded, octetsAt}
+use Rattle.number.specs.Groups.{encoded, withNumberAt}
 use Rattle.swap_write.specs.Heads.{headLength}
 use Rattle.swap_write.proofs.Judged.{length-small}
 use Rattle.swap_write.proofs.Laid.{record-laid}
@@ -68,7 +68,7 @@ returns c =
     let n : h .head-length .result .0 ≡ headLength (now (a .args .heads)) = h .head-length .ensures in
     let f : a .args .at + 8 + u .before .before .before .width-of .result ≡ a .args .at + 8 + length (encoded (headLength (now (a .args .heads)))) = ap (λ (i : ℕ). a .args .at + 8 + i) (u .before .before .before .width-of .ensures ∙ ap (λ (i : ℕ). length (encoded i)) n) in
     q .put2 .ensures
-    ∙ ap (λ (l : List ℕ). spliced l (a .args .at + 8 + u .before .before .before .width-of .result) (now (a .args .content))) (w .write .ensures .1 ∙ ap₂ (λ (l : List ℕ) (i : ℕ). octetsAt l (inOctets (a .args .at + 8)) i) (u .put .ensures) n)
+    ∙ ap (λ (l : List ℕ). spliced l (a .args .at + 8 + u .before .before .before .width-of .result) (now (a .args .content))) (w .write .ensures .1 ∙ ap₂ (λ (l : List ℕ) (i : ℕ). withNumberAt l (inOctets (a .args .at + 8)) i) (u .put .ensures) n)
     ∙ record-laid (now (a .args .buffer)) (now (a .args .heads)) (now (a .args .content)) (a .args .at) _ (a .pre .0) f (omega (arith, f, a .pre .1))
 
 pub lay-record-spec : {M : Type 1} → statement M

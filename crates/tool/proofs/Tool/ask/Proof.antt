@@ -10,7 +10,7 @@ use Rattle.tool.proofs.Gives.{gives-alike, gives-nothing}
 use borrow.Author.Tests.{ne-eqb}
 use borrow.Author.Tests.{not-true, not-false}
 use mathlib.Core.Path.{sym, _∙_}
-use Rattle.tool.specs.Requests.{admitted, afterAsking}
+use Rattle.tool.specs.Requests.{unlessRefused, afterAsking}
 use borrow.Author.Needs.{needs}
 use Rattle.tool.proofs.Tool.ask.Statement.{statement}
 use Rattle.tool.proofs.Tool.ask.Tie as tie
@@ -54,7 +54,7 @@ same-length-2 : tie.Need-same-length-2
 same-length-2 c = search needs
 
 returns-2 : tie.Need-returns-2
-unfolding afterAsking admitted
+unfolding afterAsking unlessRefused
 returns-2 c =
     let a = c .before .before .before .before .before .before .before .before .before .before .before .before .before .before .before .before .args in
     let l = lent (now (a .ads)) (now (a .key)) (now (a .na1)) (length (now (a .frame))) (sym (c .before .before .before .before .before .before .before .before .before .lent-rightly .ensures) ∙ not-false _ (c .before .before .before .before .before .before .before .before .if1 .left)) in
@@ -65,7 +65,7 @@ same-length-3 : tie.Need-same-length-3
 same-length-3 c = search needs
 
 returns-3 : tie.Need-returns-3
-unfolding afterAsking admitted
+unfolding afterAsking unlessRefused
 returns-3 c =
     let stop = sym (c .before .before .before .before .admission .ensures) ∙ ap numberOfAdmission (c .before .before .admission2 .given .1) in
     rw (sym (c .before .before .before .before .before .before .lent-rightly .ensures) ∙ not-false _ (c .before .before .before .before .before .if1 .left), stop, ne-eqb _ _ (refusal-is-number (c .before .before .admission2 .given .0 .0))) (gives-nothing _ _ _ _ (c .refusing2 .ensures))

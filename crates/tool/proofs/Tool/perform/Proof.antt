@@ -16,8 +16,8 @@ hearing-requires c κs = search needs
 enum-told-2 : tie.Need-enum-told-2
 enum-told-2 c = search needs
 
-contents-of-requires : tie.Need-contents-of-requires
-contents-of-requires c κs = search needs
+padded-contents-requires : tie.Need-padded-contents-requires
+padded-contents-requires c κs = search needs
 
 finished-requires : tie.Need-finished-requires
 finished-requires c κs = search needs
@@ -25,11 +25,11 @@ finished-requires c κs = search needs
 enum-told-3 : tie.Need-enum-told-3
 enum-told-3 c = search needs
 
-slice-aggregate-contents-of : tie.Need-slice-aggregate-contents-of
-slice-aggregate-contents-of c = search needs
+slice-aggregate-padded-contents : tie.Need-slice-aggregate-padded-contents
+slice-aggregate-padded-contents c = search needs
 
-contents-of-requires-2 : tie.Need-contents-of-requires-2
-contents-of-requires-2 c κs = search needs
+padded-contents-requires-2 : tie.Need-padded-contents-requires-2
+padded-contents-requires-2 c κs = search needs
 
 finished-requires-2 : tie.Need-finished-requires-2
 finished-requires-2 c κs = search needs
@@ -54,13 +54,13 @@ returns-2 : tie.Need-returns-2
 unfolding performed
 returns-2 c =
     let a = c .before .before .before .before .before .before .args in
-    rw (c .before .before .enum-told2 .given .1) (gives-finished (a .self) (now (a .«data»)) _ _ (rw (c .before .contents-of .ensures) at (c .finished .ensures)))
+    rw (c .before .before .enum-told2 .given .1) (gives-finished (a .self) (now (a .«data»)) _ _ (rw (c .before .padded-contents .ensures) at (c .finished .ensures)))
 
 returns-3 : tie.Need-returns-3
 unfolding performed
 returns-3 c =
     let a = c .before .before .before .before .before .before .before .args in
-    rw (c .before .before .before .enum-told3 .given .1) (gives-finished (a .self) [] _ _ (rw (c .before .contents-of2 .ensures) at (c .finished2 .ensures)))
+    rw (c .before .before .before .enum-told3 .given .1) (gives-finished (a .self) [] _ _ (rw (c .before .padded-contents2 .ensures) at (c .finished2 .ensures)))
 
 returns-4 : tie.Need-returns-4
 unfolding performed
@@ -80,11 +80,11 @@ perform-spec =
     enum-told
     hearing-requires
     enum-told-2
-    contents-of-requires
+    padded-contents-requires
     finished-requires
     enum-told-3
-    slice-aggregate-contents-of
-    contents-of-requires-2
+    slice-aggregate-padded-contents
+    padded-contents-requires-2
     finished-requires-2
     enum-known-turn
     over-requires

@@ -6,12 +6,12 @@ use borrow.Author.Needs.{needs}
 use Rattle.tool.proofs.Tool.sound.Statement.{statement}
 use Rattle.tool.proofs.Tool.sound.Tie as tie
 
-fitting-requires : tie.Need-fitting-requires
-fitting-requires c κs = search needs
+within-rec-requires : tie.Need-within-rec-requires
+within-rec-requires c κs = search needs
 
 returns : tie.Need-returns
 unfolding sound
-returns c = rw (sym (c .before .fitting .ensures) ∙ not-true _ (c .if1 .taken))
+returns c = rw (sym (c .before .within-rec .ensures) ∙ not-true _ (c .if1 .taken))
 
 is-sound-requires : tie.Need-is-sound-requires
 is-sound-requires c κs = search needs
@@ -19,7 +19,7 @@ is-sound-requires c κs = search needs
 returns-2 : tie.Need-returns-2
 unfolding sound
 returns-2 c =
-    rw (sym (c .before .before .before .fitting .ensures) ∙ not-false _ (c .before .before .if1 .left)) (c .is-sound .ensures)
+    rw (sym (c .before .before .before .within-rec .ensures) ∙ not-false _ (c .before .before .if1 .left)) (c .is-sound .ensures)
 
 pub sound-spec : {M : Type 1} → statement M
-sound-spec = tie.close (tie.spec fitting-requires returns is-sound-requires returns-2)
+sound-spec = tie.close (tie.spec within-rec-requires returns is-sound-requires returns-2)

@@ -1,7 +1,7 @@
--- `length_of` goes by the phase.
+-- `sent_length_of` goes by the phase.
 use borrow.Author.Needs.{needs}
-use Rattle.tool_memory.proofs.marks.length_of.Statement.{statement}
-use Rattle.tool_memory.proofs.marks.length_of.Tie as tie
+use Rattle.tool_memory.proofs.marks.sent_length_of.Statement.{statement}
+use Rattle.tool_memory.proofs.marks.sent_length_of.Tie as tie
 
 enum-told : tie.Need-enum-told
 enum-told c = search needs
@@ -36,8 +36,8 @@ returns-4 c = rw (c .before .before .phase .given .1) (c .narrowed .ensures)
 returns-5 : tie.Need-returns-5
 returns-5 c = search needs
 
-pub length-of-spec : {M : Type 1} → statement M
-length-of-spec =
+pub sent-length-of-spec : {M : Type 1} → statement M
+sent-length-of-spec =
     tie.close
     (tie.spec
     enum-told

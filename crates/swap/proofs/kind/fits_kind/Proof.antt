@@ -1,8 +1,8 @@
--- `is_acceptable`: each arm is a case of the definition.
-use Rattle.swap.specs.Record.{acceptable}
+-- `fits_kind`: each arm is a case of the definition.
+use Rattle.swap.specs.Record.{fitsKind}
 use borrow.Author.Needs.{needs}
-use Rattle.swap.proofs.kind.is_acceptable.Statement.{statement}
-use Rattle.swap.proofs.kind.is_acceptable.Tie as tie
+use Rattle.swap.proofs.kind.fits_kind.Statement.{statement}
+use Rattle.swap.proofs.kind.fits_kind.Tie as tie
 
 enum-told : tie.Need-enum-told
 enum-told c = search needs
@@ -14,13 +14,13 @@ is-well-formed-requires : tie.Need-is-well-formed-requires
 is-well-formed-requires c κs = search needs
 
 returns : tie.Need-returns
-unfolding acceptable
+unfolding fitsKind
 returns c = rw (c .enum-told .given .1)
 
 returns-2 : tie.Need-returns-2
-unfolding acceptable
+unfolding fitsKind
 returns-2 c = rw (c .before .enum-told2 .given .1) (c .is-well-formed .ensures)
 
-pub is-acceptable-spec : {M : Type 1} → statement M
-is-acceptable-spec =
+pub fits-kind-spec : {M : Type 1} → statement M
+fits-kind-spec =
     tie.close (tie.spec enum-told enum-told-2 is-well-formed-requires returns returns-2)

@@ -1,7 +1,7 @@
--- `Phase::fitting` goes by the phases.
+-- `Phase::within_rec` goes by the phases.
 use borrow.Author.Needs.{needs}
-use Rattle.tool.proofs.Phase.fitting.Statement.{statement}
-use Rattle.tool.proofs.Phase.fitting.Tie as tie
+use Rattle.tool.proofs.Phase.within_rec.Statement.{statement}
+use Rattle.tool.proofs.Phase.within_rec.Tie as tie
 
 enum-told : tie.Need-enum-told
 enum-told c = search needs
@@ -33,8 +33,8 @@ returns-4 c = rw (c .before .before .self .given .1)
 returns-5 : tie.Need-returns-5
 returns-5 c = rw (c .enum-told4 .given .1)
 
-pub fitting-spec : {M : Type 1} → statement M
-fitting-spec =
+pub within-rec-spec : {M : Type 1} → statement M
+within-rec-spec =
     tie.close
     (tie.spec
     enum-told
