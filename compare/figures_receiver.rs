@@ -14,13 +14,15 @@ const RECORDING: &str = "target/compare/recording";
 const OUR_LIST: &str = "target/compare/our_list";
 const PLAIN_LIST: &str = "target/compare/plain_list";
 
-/// Frames of which one in four is damaged. Every N is right, so that nothing is skipped.
+/// Frames of which about one in four is damaged. Every N is right: a recording has no gaps, so that a wrong N could skip the rest of it.
 fn mixed(rng: &mut Rng) -> Vec<u8> {
     let ads = rng.field();
-    match rng.below(4) {
+    let mut octets = match rng.below(4) {
         0 => random_frames::damaged(rng, ads),
         _ => random_frames::frame(rng, ads).octets().expect("DATA within its limit"),
-    }
+    };
+    octets[0] = octets.len() as u8;
+    octets
 }
 
 /// A longest frame with a wrong CRC, for which one short line is listed.
@@ -50,8 +52,10 @@ fn plain() {
 
 fn recording(what: &str, frame: impl Fn(&mut Rng) -> Vec<u8>, rng: &mut Rng) {
     let mut octets = vec![];
+    let mut frames = 0;
     while octets.len() < OCTETS {
         octets.extend(frame(rng));
+        frames += 1;
     }
     fs::write(RECORDING, &octets).expect("a file for the recording");
     let runners: Vec<Runner> = vec![
@@ -60,7 +64,8 @@ fn recording(what: &str, frame: impl Fn(&mut Rng) -> Vec<u8>, rng: &mut Rng) {
     ];
     table(what, octets.len(), TURNS, runners);
     let [our_list, plain_list] = [OUR_LIST, PLAIN_LIST].map(|file| fs::read(file).expect("a list"));
-    assert!(our_list == plain_list && !our_list.is_empty());
+    assert!(our_list == plain_list);
+    assert_eq!(our_list.iter().filter(|&&octet| octet == b'\n').count(), frames, "a line for each frame");
 }
 
 pub fn print(rng: &mut Rng) {
