@@ -6,3 +6,4 @@ pub mod Memory
 pub mod Refusing
 pub mod Fresh
 pub mod Storable
+mod Offsets
