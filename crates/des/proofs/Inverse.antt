@@ -57,7 +57,8 @@ module _ (K : ℕ → List ℕ) (block : List ℕ) where
       ap (permuted IP) (bits-octets 8 (permuted inverseIP last) (length-permuted inverseIP last) (areBits-permuted inverseIP last last-bits))
       ∙ initial-after-inverse last last-long
 
-  computation-back : (K′ : ℕ → List ℕ) → ((i : ℕ) → 0 < i → i ≤ 16 → K′ i ≡ K (17 - i)) → length block ≡ 8 → AreOctets block
+  -- the computation with the round keys in the reverse order gives the block back
+  pub computation-back : (K′ : ℕ → List ℕ) → ((i : ℕ) → 0 < i → i ≤ 16 → K′ i ≡ K (17 - i)) → length block ≡ 8 → AreOctets block
       → computation K′ (computation K block) ≡ block
   unfolding last
   computation-back K′ reverse l o =

@@ -17,7 +17,7 @@ use Rattle.des.proofs.Permutations.{length-permuted}
 
 -- ---- left shifts of one string
 
-length-leftShift : (n : ℕ) (b : List ℕ) → length (leftShift n b) ≡ length b
+pub length-leftShift : (n : ℕ) (b : List ℕ) → length (leftShift n b) ≡ length b
 unfolding leftShift
 length-leftShift n b =
     length-append (drop n b) (take n b)
@@ -44,10 +44,10 @@ leftShift-none b = append-nil b
 -- ---- left shifts of both halves
 
 module _ (cd : List ℕ) (long : length cd ≡ 56) where
-  first-long : length (take 28 cd) ≡ 28
+  pub first-long : length (take 28 cd) ≡ 28
   first-long = length-take-le 28 cd (omega arith)
 
-  second-long : length (drop 28 cd) ≡ 28
+  pub second-long : length (drop 28 cd) ≡ 28
   second-long = simp length-drop (omega arith)
 
   pub length-bothShifted : (s : ℕ) → length (bothShifted s cd) ≡ 56
@@ -90,28 +90,31 @@ length-keyHalves key zero = length-permuted PC1 (bits key)
 length-keyHalves key (suc n) = length-bothShifted (keyHalves key n) (length-keyHalves key n) (getD leftShifts n 0)
 
 -- the left shifts of C and D up to round n
-abbrev total : ℕ → ℕ
+abbrev pub total : ℕ → ℕ
 total zero = 0
 total (suc n) = total n + getD leftShifts n 0
 
-total-le : (n : ℕ) → n < 17 → total n ≤ 28
+pub total-le : (n : ℕ) → n < 17 → total n ≤ 28
 unfolding leftShifts
 total-le n h = leb→le (total n) 28 (at 17 (λ n. leb (total n) 28) tt n h)
 
-keyHalves-total : (key : List ℕ) (n : ℕ) → n < 17 → keyHalves key n ≡ bothShifted (total n) (keyHalves key 0)
+pub keyHalves-total : (key : List ℕ) (n : ℕ) → n < 17 → keyHalves key n ≡ bothShifted (total n) (keyHalves key 0)
 unfolding keyHalves
 keyHalves-total key zero h = sym (bothShifted-none (keyHalves key 0) (length-keyHalves key 0))
 keyHalves-total key (suc n) h =
     ap (bothShifted (getD leftShifts n 0)) (keyHalves-total key n (omega arith))
     ∙ bothShifted-add (keyHalves key 0) (length-keyHalves key 0) (getD leftShifts n 0) (total n) (total-le (suc n) h)
 
--- C16 D16 is C0 D0, since the shifts of sixteen rounds make 28; and so is C17 D17, since no shift belongs to a seventeenth round
+-- C16 D16 is C0 D0, since the shifts of sixteen rounds make 28
+pub keyHalves-around : (key : List ℕ) → keyHalves key 0 ≡ keyHalves key 16
+unfolding keyHalves leftShifts
+keyHalves-around key =
+    sym (keyHalves-total key 16 (omega arith) ∙ bothShifted-all (keyHalves key 0) (length-keyHalves key 0))
+
+-- C17 D17 is C0 D0 too, since no shift belongs to a seventeenth round
 keyHalves-last : (key : List ℕ) → keyHalves key 0 ≡ keyHalves key 17
 unfolding keyHalves leftShifts
-keyHalves-last key =
-    sym (bothShifted-none (keyHalves key 16) (length-keyHalves key 16)
-    ∙ keyHalves-total key 16 (omega arith)
-    ∙ bothShifted-all (keyHalves key 0) (length-keyHalves key 0))
+keyHalves-last key = keyHalves-around key ∙ sym (bothShifted-none (keyHalves key 16) (length-keyHalves key 16))
 
 -- ---- the halves in hand, from one round to the next
 

@@ -1,17 +1,19 @@
 -- What a table selects, entry by entry; and IP and its inverse undo each other.
 -- Assumes nothing.
-use mathlib.Core.Path.{_≡_, refl, ap, sym, _∙_, subst}
-use mathlib.Core.Bool.{Bool, _&&_}
+use mathlib.Core.Path.{_≡_, refl, ap, ap₂, sym, _∙_, subst}
+use mathlib.Core.Bool.{Bool, true, false, _&&_}
 use mathlib.Core.List.{List, [], _∷_, _++_}
 use Prim.Native.Nat.{ℕ, zero, suc, _+_, _-_, _*_, _/_, _%_, _^_, _<_, _≤_}
 use native.Mathlib.Nat.{not-suc-le-zero, le-of-suc-le-suc}
 use native.Mathlib.Numerals.{add-one}
 use native.Mathlib.Omega.{arith}
 use lib.Dec.{T, leb, ltb, eqb, leb→le, ltb→lt, eqb→eq, lit≤}
-use lib.ListN.{length, getD, take, length-map}
+use lib.ListN.{length, getD, take, drop, length-map}
 use lib.Seq.{ext-getD, take-suc}
+use borrow.Author.Tests.{eqb-true}
 use Rattle.des.specs.Tables.{IP, inverseIP, E, P, PC1, PC2}
 use Rattle.des.specs.Des.{bitsOf, permuted}
+use Rattle.des.specs.Rows.{oneMore, count}
 use Rattle.des.specs.Words.{Word, entriesWithin, Selects}
 use Rattle.des.proofs.Strings.{AreBits, getD-bitsOf}
 use Rattle.des.proofs.Held.{joined, single}
@@ -32,6 +34,20 @@ unfolding permuted
 permuted-append [] u b = refl
 permuted-append (x ∷ t) u b = ap (λ (l : List ℕ). getD b (x - 1) 0 ∷ l) (permuted-append t u b)
 
+-- two strings of which a table selects the same have the same bit wherever the table names it
+pub named-same : (t a b : List ℕ) → permuted t a ≡ permuted t b → (i : ℕ) → 0 < count (suc i) t → getD a i 0 ≡ getD b i 0
+unfolding permuted count
+named-same [] a b e i h = absurd (not-suc-le-zero h)
+named-same (x ∷ t) a b e i h = go (eqb (suc i) x) refl h (named-same t a b (ap (drop 1) e) i)
+  where
+    go : (here : Bool) → eqb (suc i) x ≡ here → 0 < oneMore here (count (suc i) t)
+        → (0 < count (suc i) t → getD a i 0 ≡ getD b i 0)
+        → getD a i 0 ≡ getD b i 0
+    go true p l later =
+        let n : x - 1 ≡ i = omega (arith, eqb-true (suc i) x p) in
+        subst (λ (j : ℕ). getD a j 0 ≡ getD b j 0) n (ap (λ (s : List ℕ). getD s 0 0) e)
+    go false p l later = later l
+
 -- every entry of a table that is within n is from 1 to n
 pub within-at : (n : ℕ) (t : List ℕ) → T (entriesWithin n t) → (i : ℕ) → i < length t → (1 ≤ getD t i 0) × (getD t i 0 ≤ n)
 within-at n [] h i l = absurd (not-suc-le-zero l)
@@ -39,6 +55,15 @@ within-at n (x ∷ t) h zero l =
     let e = left (leb 1 x && leb x n) (entriesWithin n t) h in
     (leb→le 1 x (left (leb 1 x) (leb x n) e), leb→le x n (right (leb 1 x) (leb x n) e))
 within-at n (x ∷ t) h (suc i) l = within-at n t (right (leb 1 x && leb x n) (entriesWithin n t) h) i (le-of-suc-le-suc l)
+
+-- to select by u and then by t is to select by the entries of u that t selects
+pub permuted-twice : (t u b : List ℕ) → T (entriesWithin (length u) t) → permuted t (permuted u b) ≡ permuted (permuted t u) b
+unfolding permuted
+permuted-twice [] u b h = refl
+permuted-twice (x ∷ t) u b h =
+    let w = within-at (length u) (x ∷ t) h 0 (omega arith) in
+    ap₂ (λ (y : ℕ) (l : List ℕ). y ∷ l) (getD-permuted u b (x - 1) (omega arith))
+    (permuted-twice t u b (right (leb 1 x && leb x (length u)) (entriesWithin (length u) t) h))
 
 -- the bit that an entry names, in a word of n bits
 pub named : (n w x : ℕ) → 1 ≤ x → x ≤ n → w / 2 ^ (n - x) % 2 ≡ getD (bitsOf n w) (x - 1) 0

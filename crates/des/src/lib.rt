@@ -1,4 +1,5 @@
 // DES of FIPS 46-3 on one block of eight octets, both ways. The first octet of a key or a block has its bits 1 to 8.
+pub mod keys;
 mod rounds;
 mod schedule;
 mod tables;
