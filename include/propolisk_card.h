@@ -20,13 +20,13 @@
  *
  * Numbers that more than one call gives, in the order in which they are tested:
  * 17: the memory is under PROPOLISK_CARD_MEMORY octets, or another buffer has not the length that its call names. Nothing is changed, *length included.
- * 12: the memory does not hold a card: its address is broadcast, its records break what setup's 12, 7, 8 and 9 ask, the wait's DATA is over 100
- *     octets, the mark of the wait or of the receiver is not in use, or the partly received frame cannot be one. Nothing is changed, *length included.
- *     Memory that setup accepted and only these calls wrote is never refused with 12.
+ * 12: the memory does not hold a card: its address is broadcast, its key is weak, its records break what setup's 12, 7, 8 and 9 ask, the wait's DATA
+ *     is over 100 octets, the mark of the wait or of the receiver is not in use, or the partly received frame cannot be one. Nothing is changed, *length included.
+ *     Memory that this setup accepted and only these calls wrote is never refused with 12.
  *  0: done, and nothing was refused.
  * A refusal writes nothing to memory but, where the rules of the bus say so, the receiver and the mark of the waiting exchange.
  *
- * Stack, measured in octets below the caller: setup 17,256, step_octet 56,840, step_gap 28,664, step_session_end 28,776, meter_write 33,352,
+ * Stack, measured in octets below the caller: setup 17,272, step_octet 56,840, step_gap 28,664, step_session_end 28,776, meter_write 33,352,
  * read 33,560 (examples/call_stack.c). The card's records are taken out of the memory whole for each call, which is where the stack goes.
  * Nothing is allocated elsewhere.
  *
@@ -67,6 +67,8 @@
  * 17: the memory is too short, the address has not 6 octets or the key not 8.
  *  6: the address is 000000000000, which is broadcast.
  * 12: more than 32 records, a TAB twice, a kind that is neither raw nor label, or a limit over 116.
+ * 21: the key is one of DES's four weak keys, whatever its parity bits (the lowest bit of each octet): 01 eight times, FE eight times, E0 four times
+ *     then F1 four times, 1F four times then 0E four times. Under such a key, enciphering twice gives the block back.
  *  7, 8, 9: the first record whose contents are not acceptable has more octets than its limit, is an ill-formed label, or has more characters
  *     than its limit.
  * Any refusal leaves the memory as it was. */

@@ -21,7 +21,8 @@ uint16_t propolisk_crc_key(const uint8_t *octets, size_t count);
 /* The receiver's test of octets that end with their check key. */
 bool propolisk_crc_divisible(const uint8_t *octets, size_t count);
 
-/* The block is enciphered, or deciphered, where it stands. The first octet of key and block holds bits 1 to 8 of FIPS 46-3. */
+/* The block is enciphered, or deciphered, where it stands. The first octet of key and block holds bits 1 to 8 of FIPS 46-3. Every key is taken, the
+ * weak ones too. */
 void propolisk_des_encipher(const uint8_t key[8], uint8_t block[8]);
 void propolisk_des_decipher(const uint8_t key[8], uint8_t block[8]);
 

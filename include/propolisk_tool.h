@@ -13,10 +13,11 @@
  *       a partly received frame that cannot be                                                     nothing at all has changed
  *   16  a request runs already                                                                     nothing at all has changed
  *    6  a broadcast address for a request to one station, or another for a broadcast request       nothing at all has changed
+ *   21  a weak key to program with: one of DES's four, whatever its parity bits (propolisk_card.h)  nothing at all has changed
  *    7  more DATA than the request can have: 100 to program, 116 else                              nothing at all has changed
  *   1 to 5  a bad frame is dropped; the request that runs goes on                                   the receiver alone has changed
  *   13, 14, 15, 19, 20  the request is over: cipher wrong, echo wrong, session ended, unexpected frame, rejected
- * They are tested in the order 17, 12, 16, 6, 7. Cells, and what is lent for DATA, are written where the result is 0 and at no other time; of
+ * They are tested in the order 17, 12, 16, 6, 21, 7. Cells, and what is lent for DATA, are written where the result is 0 and at no other time; of
  * the frame buffer, octets past a frame are kept.
  *
  * What the host does:
@@ -30,7 +31,7 @@
  * - It fits a label for a record with propolisk_label_fit (propolisk_primitives.h) before it programs or transfers it: octet counts and character
  *   counts never stand in for each other.
  *
- * Stack, measured in octets below the caller (examples/call_stack.c): octet 2,608, the requests under 2,500, gap and session_end under 1,350,
+ * Stack, measured in octets below the caller (examples/call_stack.c): octet 2,624, the requests under 2,600, gap and session_end under 1,350,
  * new 256 or less. */
 #ifndef PROPOLISK_TOOL_H
 #define PROPOLISK_TOOL_H
@@ -58,7 +59,8 @@ uint8_t propolisk_tool_transfer(uint8_t memory[PROPOLISK_TOOL_MEMORY], const uin
                                 uint8_t *ended);
 
 /* Writes a record by remote programming: REC, at most 100 octets of DATA; AUT follows when the right ECH has come. The key and the random
- * number NA1 are of 8 octets each; the memory keeps them. */
+ * number NA1 are of 8 octets each; the memory keeps them. 21: the key is weak. A request that runs is never refused
+ * for its key. */
 uint8_t propolisk_tool_program(uint8_t memory[PROPOLISK_TOOL_MEMORY], const uint8_t *ads, size_t ads_count, uint8_t adp, uint8_t tab,
                                const uint8_t *data, size_t data_count, const uint8_t *key, size_t key_count, const uint8_t *na1,
                                size_t na1_count, uint8_t *frame, size_t room, size_t *length, uint8_t *wake, uint8_t *ended);

@@ -107,7 +107,7 @@ module _ (c b : Card) (u : Unchanged c b) (h : Whole b) where
   idle-whole : Whole (withoutWait b)
   idle-whole =
       record {
-        sound = record { address = h .sound .address; fits = omega arith; receiver = h .sound .receiver; records = h .sound .records };
+        sound = record { address = h .sound .address; key = h .sound .key; fits = omega arith; receiver = h .sound .receiver; records = h .sound .records };
         long = h .long;
       }
 
@@ -117,6 +117,7 @@ module _ (c b : Card) (u : Unchanged c b) (h : Whole b) where
         sound =
             record {
               address = h .sound .address;
+              key = h .sound .key;
               fits = h .sound .fits;
               receiver = h .sound .receiver;
               records = write-sound (b .records) cause t d (h .sound .records);
@@ -144,7 +145,7 @@ module _ (c b : Card) (u : Unchanged c b) (h : Whole b) where
   waiting-whole : (loan : Loan) (f : Fields) (d : List ℕ) → length d ≤ mostProgrammed → Whole (waitingFor b loan f d)
   waiting-whole loan f d short =
       record {
-        sound = record { address = h .sound .address; fits = short; receiver = h .sound .receiver; records = h .sound .records };
+        sound = record { address = h .sound .address; key = h .sound .key; fits = short; receiver = h .sound .receiver; records = h .sound .records };
         long = h .long;
       }
 
@@ -197,6 +198,7 @@ module _ (c : Card) (h : Whole c) where
         sound =
             record {
               address = h .sound .address;
+              key = h .sound .key;
               fits = h .sound .fits;
               receiver = holding-sound (s .next) (c .receiver) g;
               records = h .sound .records;

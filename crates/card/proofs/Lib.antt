@@ -7,6 +7,8 @@ mod Receptions
 pub mod Keeping
 pub mod Reached
 pub mod Fresh
+pub mod SetupOrder
+pub mod WeakKeys
 pub mod Station
 pub mod Feeding
 pub mod TakingOut

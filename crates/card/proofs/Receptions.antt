@@ -31,7 +31,7 @@ use Rattle.card.specs.Frames.{onFrame}
 use Rattle.card.specs.Events.{outcomeNumber, afterStep, heardAs, heardStep, heard, gapStep, afterOctet as afterCardOctet}
 
 pub receiver-sound : (c : Card) (r : Receiver) → Sound c → ReceiverSound r → Sound (withReceiver r c)
-receiver-sound c r s h = record { address = s .address; fits = s .fits; receiver = h; records = s .records }
+receiver-sound c r s h = record { address = s .address; key = s .key; fits = s .fits; receiver = h; records = s .records }
 
 -- the octets of a whole frame, as the receiver hands them over
 pub first-octet : (f : List ℕ) → WholeFrame f → getD (fronted f noFrame) 0 0 ≤ longestFrame

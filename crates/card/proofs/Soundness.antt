@@ -10,20 +10,24 @@ use Rattle.receiver.specs.Receiver as receiver
 use Rattle.receiver.proofs.Soundness as receiver-laws
 use Rattle.card.specs.declared.Card.{Card}
 use Rattle.frame.specs.Addresses.{broadcast}
+use Rattle.des.specs.WeakKeys.{weak}
 use Rattle.card.specs.Soundness.{waitingLength, withinRec, sound, Sound}
 
 module _ (c : Card) where
   sound-of : sound c ≡ true → Sound c
   unfolding sound
   sound-of h =
-      let first = and-eq-true-iff (not (broadcast (c .identity .address))) (withinRec (c .exchange .phase) && (receiver.sound (c .receiver) && records.sound (c .records))) .0 h in
-      let second = and-eq-true-iff (withinRec (c .exchange .phase)) (receiver.sound (c .receiver) && records.sound (c .records)) .0 (first .1) in
-      let third = and-eq-true-iff (receiver.sound (c .receiver)) (records.sound (c .records)) .0 (second .1) in
+      let held = receiver.sound (c .receiver) && records.sound (c .records) in
+      let first = and-eq-true-iff (not (broadcast (c .identity .address))) (not (weak (c .identity .key)) && (withinRec (c .exchange .phase) && held)) .0 h in
+      let second = and-eq-true-iff (not (weak (c .identity .key))) (withinRec (c .exchange .phase) && held) .0 (first .1) in
+      let third = and-eq-true-iff (withinRec (c .exchange .phase)) held .0 (second .1) in
+      let fourth = and-eq-true-iff (receiver.sound (c .receiver)) (records.sound (c .records)) .0 (third .1) in
       record {
         address = not-true (broadcast (c .identity .address)) (first .0);
-        fits = leb-true (waitingLength (c .exchange .phase)) mostProgrammed (second .0);
-        receiver = receiver-laws.test-sound (c .receiver) (third .0);
-        records = records-laws.sound-means (c .records) .0 (third .1);
+        key = not-true (weak (c .identity .key)) (second .0);
+        fits = leb-true (waitingLength (c .exchange .phase)) mostProgrammed (third .0);
+        receiver = receiver-laws.test-sound (c .receiver) (fourth .0);
+        records = records-laws.sound-means (c .records) .0 (fourth .1);
       }
 
   pub sound-test : Sound c → sound c ≡ true
@@ -31,6 +35,7 @@ module _ (c : Card) where
   sound-test s =
       rw (
         s .address,
+        s .key,
         le-leb (waitingLength (c .exchange .phase)) mostProgrammed (s .fits),
         receiver-laws.sound-test (c .receiver) (s .receiver),
         records-laws.sound-means (c .records) .1 (s .records),

@@ -4,7 +4,8 @@ use mathlib.Core.Bool.{cond, _&&_}
 use mathlib.Core.List.{List, [], _∷_}
 use lib.Dec.{eqb}
 use lib.ListN.{length, replicate}
-use Rattle.numbers.specs.Table.{wrongAddress, brokenRule, wrongLength}
+use Rattle.des.specs.WeakKeys.{weak}
+use Rattle.numbers.specs.Table.{wrongAddress, brokenRule, wrongLength, weakKey}
 use Rattle.frame.specs.Sizes.{addressWidth, numberWidth, mostProgrammed}
 use Rattle.frame.specs.Addresses.{broadcast}
 use Rattle.records.specs.declared.Records.{Records}
@@ -37,11 +38,13 @@ unfoldable pub admittedWith : ℕ → Card → Response
 admittedWith zero c = silent c
 admittedWith (suc n) c = refusedSetup (suc n)
 
--- "Setup checks: address is not broadcast (6); at most 32 records, no TAB twice, known kinds, limits in range (12); then each content in turn"
+-- "Setup checks: address is not broadcast (6); at most 32 records, no TAB twice, known kinds, limits in range (12); then each content in turn";
+-- 02, E5: "21, in setup right after 12 and before contents"
 unfoldable pub admitted : List ℕ → List ℕ → Records → Response
 admitted address key records =
     cond (broadcast address) (refusedSetup wrongAddress)
-    (cond (keepsRules records) (admittedWith (contentsNumber (used records)) (fresh address key records))
+    (cond (keepsRules records)
+    (cond (weak key) (refusedSetup weakKey) (admittedWith (contentsNumber (used records)) (fresh address key records)))
     (refusedSetup brokenRule))
 
 -- 17 is tested first: "a lent key or number not of 8 octets, an address not of 6"

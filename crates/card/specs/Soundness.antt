@@ -3,6 +3,7 @@ use Prim.Native.Nat.{ℕ, _≤_}
 use mathlib.Core.Path.{_≡_}
 use mathlib.Core.Bool.{Bool, false, not, _&&_}
 use lib.Dec.{leb}
+use Rattle.des.specs.WeakKeys.{weak}
 use Rattle.frame.specs.Sizes.{mostProgrammed}
 use Rattle.frame.specs.Addresses.{broadcast}
 use Rattle.records.specs.Setup as records
@@ -22,13 +23,16 @@ withinRec p = leb (waitingLength p) mostProgrammed
 
 -- "a card .. that breaks a setup rule, holds a length over its limit or a state mark not in use is refused with 12 ..; so is a partly received
 -- frame whose N answer 1 would refuse, or with as many octets as its N states or more." Every state mark of a card by value is in use by its type.
+-- That the key is not weak is a setup rule (02, E5).
 unfoldable pub sound : Card → Bool
 sound c =
-    not (broadcast (c .identity .address)) && (withinRec (c .exchange .phase) && (receiver.sound (c .receiver) && records.sound (c .records)))
+    not (broadcast (c .identity .address))
+    && (not (weak (c .identity .key)) && (withinRec (c .exchange .phase) && (receiver.sound (c .receiver) && records.sound (c .records))))
 
 -- the same rules one by one
 pub record Sound (c : Card) : Type 0 where
   pub address : broadcast (c .identity .address) ≡ false
+  pub key : weak (c .identity .key) ≡ false
   pub fits : waitingLength (c .exchange .phase) ≤ mostProgrammed
   pub receiver : receiver.Sound (c .receiver)
   pub records : records.Sound (c .records)

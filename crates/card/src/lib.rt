@@ -48,7 +48,7 @@ pub struct Card {
     pub receiver: Receiver,
 }
 
-// What the host is told: nothing, or why a frame, an address, data, a card, a cipher or a lent slice is refused.
+// What the host is told: nothing, or why a frame, an address, data, a card, a cipher, a lent slice or a key is refused.
 pub enum Answer {
     Nothing,
     BadFrame(Fault),
@@ -57,6 +57,7 @@ pub enum Answer {
     BrokenRule,
     WrongCipher,
     WrongLength,
+    WeakKey,
 }
 
 // The next card beside the answer.
@@ -84,6 +85,7 @@ impl Answer {
             Answer::BrokenRule => table::BROKEN_RULE,
             Answer::WrongCipher => table::WRONG_CIPHER,
             Answer::WrongLength => table::WRONG_LENGTH,
+            Answer::WeakKey => table::WEAK_KEY,
         }
     }
 }

@@ -11,6 +11,7 @@ use crate::Identity;
 use crate::Phase;
 use crate::frames::write_answer;
 use crate::sound::broadcast;
+use des::keys::weak;
 use frame::sizes::ADDRESS_WIDTH;
 use frame::sizes::MOST_PROGRAMMED;
 use frame::sizes::NUMBER_WIDTH;
@@ -58,7 +59,7 @@ impl Card {
         }
     }
 
-    // Setup's checks after 17: the address (6), the rules of the records (12), then each content in turn (7, 8, 9).
+    // Setup's checks after 17: the address (6), the rules of the records (12), the key (21), then each content in turn (7, 8, 9).
     fn admitted(address: [u8; ADDRESS_WIDTH], key: [u8; NUMBER_WIDTH], records: Records) -> Answered
         ensures { λ r. ⌜ Tells (admitted address key records) r ⌝ }
     {
@@ -67,6 +68,9 @@ impl Card {
         }
         if !records.keeps_rules() {
             return Card::refused_setup(Answer::BrokenRule);
+        }
+        if weak(key) {
+            return Card::refused_setup(Answer::WeakKey);
         }
         let contents = records.contents_answers();
         let records::Answer::Accepted = contents else {

@@ -4,6 +4,7 @@ ghost use Rattle.frame.specs.Addresses.{broadcast};
 ghost use Rattle.card.specs.Soundness.{withinRec, sound};
 use crate::Card;
 use crate::Phase;
+use des::keys::weak;
 use frame::sizes::ADDRESS_WIDTH;
 use frame::sizes::MOST_PROGRAMMED;
 
@@ -38,6 +39,10 @@ impl Card {
         let identity = self.identity;
         let address = identity.address;
         if broadcast(address) {
+            return false;
+        }
+        let key = identity.key;
+        if weak(key) {
             return false;
         }
         let exchange = self.exchange;

@@ -10,6 +10,7 @@ use borrow.Author.Tests.{le-leb, leb-true, eq-eqb, eqb-true}
 use Rattle.numbers.specs.Table.{none, wrongAddress, brokenRule, wrongLength}
 use Rattle.records.specs.Finding.{used}
 use Rattle.records.specs.Setup.{keepsRules, contentsNumber}
+use Rattle.des.specs.WeakKeys.{weak}
 use Rattle.frame.specs.Addresses.{broadcast}
 use Rattle.card.specs.Setup.{admittedWith, admitted, afterSetup}
 use Rattle.card_memory.specs.Layout.{addressSize, keySize, size}
@@ -19,11 +20,11 @@ use Rattle.card_exports.specs.Setup.{setupNumber, settled, setupOutcome}
 use Rattle.card_exports.proofs.Judging.{setup-judged}
 
 pub setup-accepts : (m address key : List ℕ) (count : ℕ) (entries : List ℕ) → size ≤ length m → length address ≡ addressSize → length key ≡ keySize → broadcast address ≡ false
-    → entryKindsKnown count entries ≡ true → keepsRules (entryRecords count entries) ≡ true → contentsNumber (used (entryRecords count entries)) ≡ none
+    → weak key ≡ false → entryKindsKnown count entries ≡ true → keepsRules (entryRecords count entries) ≡ true → contentsNumber (used (entryRecords count entries)) ≡ none
     → setupOutcome m address key count entries ≡ record { number = none; memory = setUp address key count entries m }
 unfolding setupOutcome setupNumber admitted admittedWith
-setup-accepts m address key count entries long six eight own kinds rules contents =
-    rw (le-leb size (length m) long, eq-eqb (length address) addressSize six, eq-eqb (length key) keySize eight, own, kinds, rules, contents)
+setup-accepts m address key count entries long six eight own strong kinds rules contents =
+    rw (le-leb size (length m) long, eq-eqb (length address) addressSize six, eq-eqb (length key) keySize eight, own, kinds, rules, strong, contents)
 
 -- what a setup that gives no number has tested
 pub record Passed (m address key : List ℕ) (count : ℕ) (entries : List ℕ) : Type 0 where

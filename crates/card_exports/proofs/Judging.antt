@@ -1,21 +1,19 @@
 -- The number of setup by value, with a kind that is none counted as a broken rule, is the number of setup over memory.
-use Prim.Native.Nat.{ℕ, zero, suc, _≤_}
+use Prim.Native.Nat.{ℕ, zero, suc}
 use mathlib.Core.Path.{_≡_, refl}
 use mathlib.Core.Bool.{Bool, true, false, cond, _&&_}
-use mathlib.Core.List.{List, [], _∷_}
-use mathlib.Core.Logic.{_⊎_, inl, inr}
+use mathlib.Core.List.{List}
+use mathlib.Core.Logic.{inl, inr}
 use native.Mathlib.Omega.{arith}
 use lib.Dec.{eqb}
 use lib.ListN.{length}
 use borrow.Author.Tests.{ne-eqb}
-use Rattle.numbers.specs.Table.{none, wrongAddress, tooLong, notOpen, brokenRule, wrongLength}
-use Rattle.numbers.specs.Answer.{Answer, given, refused, refusedAt, numberOf}
-use Rattle.records.specs.declared.Record.{Record}
+use Rattle.numbers.specs.Table.{wrongAddress, brokenRule, wrongLength, weakKey}
 use Rattle.records.specs.declared.Records.{Records}
-use Rattle.records.specs.Judging.{contentsAnswer}
 use Rattle.records.specs.Finding.{used}
-use Rattle.records.specs.Setup.{keepsRules, firstNumber, contentsNumber}
-use Rattle.records.proofs.Refusals.{Bounded, contents-bounded}
+use Rattle.records.specs.Setup.{keepsRules, contentsNumber}
+use Rattle.records.proofs.Refusals.{Judges, contents-judge}
+use Rattle.des.specs.WeakKeys.{weak}
 use Rattle.frame.specs.Addresses.{broadcast}
 use Rattle.card.specs.declared.Card.{Card}
 use Rattle.card.specs.Parts.{Response}
@@ -23,25 +21,6 @@ use Rattle.card.specs.Setup.{fresh, refusedSetup, admittedWith, admitted, after
 use Rattle.card_memory.specs.Layout.{addressSize, keySize}
 use Rattle.card_memory.specs.Setup.{entryRecords, entryKindsKnown}
 use Rattle.card_exports.specs.Setup.{numberWithKinds, setupNumber}
-
--- the number of contents: none, or one of 7 to 11
-abbrev Judges : ℕ → Type 0
-Judges n = (n ≡ none) ⊎ ((tooLong ≤ n) × (n ≤ notOpen))
-
-answer-judges : {Values : Type 0} (a : Answer Values) → Bounded a → Judges (numberOf a)
-answer-judges (given v) h = inl refl
-answer-judges (refused n) h = inr h
-answer-judges (refusedAt n offset) h = absurd h
-
-first-judges : (n m : ℕ) → Judges n → Judges m → Judges (firstNumber n m)
-unfolding firstNumber
-first-judges zero m h k = k
-first-judges (suc n) m h k = h
-
-contents-judge : (l : List Record) → Judges (contentsNumber l)
-unfolding contentsNumber
-contents-judge [] = inl refl
-contents-judge (r ∷ l) = first-judges (numberOf (contentsAnswer r)) (contentsNumber l) (answer-judges (contentsAnswer r) (contents-bounded r)) (contents-judge l)
 
 -- a number that is neither 17 nor 6 gives way to 12
 judge-yields : (n : ℕ) (b : Bool) → Judges n → numberWithKinds n b ≡ cond b n brokenRule
@@ -54,17 +33,26 @@ admitted-number zero c = refl
 admitted-number (suc n) c = refl
 
 module _ (b : Bool) (address key : List ℕ) (s : Records) where
-  by-rules : (x : Bool) → numberWithKinds (cond x (admittedWith (contentsNumber (used s)) (fresh address key s)) (refusedSetup brokenRule) .number) b
-      ≡ cond b (cond x (admittedWith (contentsNumber (used s)) (fresh address key s)) (refusedSetup brokenRule) .number) brokenRule
-  by-rules true = rw (admitted-number (contentsNumber (used s)) (fresh address key s)) (judge-yields (contentsNumber (used s)) b (contents-judge (used s)))
+  -- 21, or the number of the contents
+  keyed : Bool → Response
+  keyed w = cond w (refusedSetup weakKey) (admittedWith (contentsNumber (used s)) (fresh address key s))
+
+  by-key : (w : Bool) → numberWithKinds (keyed w .number) b ≡ cond b (keyed w .number) brokenRule
+  unfolding keyed
+  by-key true = refl
+  by-key false = rw (admitted-number (contentsNumber (used s)) (fresh address key s)) (judge-yields (contentsNumber (used s)) b (contents-judge (used s)))
+
+  by-rules : (x : Bool) → numberWithKinds (cond x (keyed (weak key)) (refusedSetup brokenRule) .number) b
+      ≡ cond b (cond x (keyed (weak key)) (refusedSetup brokenRule) .number) brokenRule
+  by-rules true = by-key (weak key)
   by-rules false = refl
 
   by-address : numberWithKinds (admitted address key s .number) b ≡ cond (broadcast address) wrongAddress (cond b (admitted address key s .number) brokenRule)
-  unfolding admitted
+  unfolding admitted keyed
   by-address = go (broadcast address)
     where
       rules : Response
-      rules = cond (keepsRules s) (admittedWith (contentsNumber (used s)) (fresh address key s)) (refusedSetup brokenRule)
+      rules = cond (keepsRules s) (keyed (weak key)) (refusedSetup brokenRule)
 
       go : (x : Bool) → numberWithKinds (cond x (refusedSetup wrongAddress) rules .number) b ≡ cond x wrongAddress (cond b (cond x (refusedSetup wrongAddress) rules .number) brokenRule)
       go true = refl

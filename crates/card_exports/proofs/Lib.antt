@@ -5,4 +5,6 @@ mod Judging
 mod Finding
 pub mod Accepting
 pub mod Unchanged
+pub mod SetupOrder
+pub mod WeakKeys
 pub mod Leaving

@@ -16,7 +16,7 @@ abbrev pub numberWithKinds : ℕ → Bool → ℕ
 numberWithKinds number known = cond (eqb number wrongLength) wrongLength (cond (eqb number wrongAddress) wrongAddress (cond known number brokenRule))
 
 -- "Setup checks: address is not broadcast (6); at most 32 records, no TAB twice, known kinds, limits in range (12); then each content in turn"; before
--- them 17: "a lent key .. not of 8 octets, an address not of 6"
+-- them 17: "a lent key .. not of 8 octets, an address not of 6"; 21 is `admitted`'s, after 12 (02, E5)
 unfoldable pub setupNumber : List ℕ → List ℕ → ℕ → List ℕ → ℕ
 setupNumber address key count entries =
     cond (eqb (length address) addressSize && eqb (length key) keySize)

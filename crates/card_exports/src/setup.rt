@@ -10,7 +10,7 @@ use numbers::table::NONE;
 use numbers::table::WRONG_ADDRESS;
 use numbers::table::WRONG_LENGTH;
 
-// The number of a setup whose entries may have kinds that are none: those are 12, after 17 and 6 and before contents.
+// The number of a setup whose entries may have kinds that are none: those are 12, after 17 and 6 and before the key and contents.
 fn judge(answer: Answer, known: bool) -> u8
     ensures { λ r. ⌜ r ≡ numberWithKinds (answerNumber answer) known ⌝ }
 {

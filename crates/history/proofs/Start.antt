@@ -7,7 +7,8 @@ use native.Mathlib.Omega.{arith}
 use lib.Dec.{eqb}
 use lib.ListN.{length}
 use borrow.Author.Tests.{eqb-true}
-use Rattle.numbers.specs.Table.{none, wrongAddress, brokenRule, wrongLength}
+use Rattle.des.specs.WeakKeys.{weak}
+use Rattle.numbers.specs.Table.{none, wrongAddress, brokenRule, wrongLength, weakKey}
 use Rattle.frame.specs.Sizes.{addressWidth, numberWidth}
 use Rattle.frame.specs.Addresses.{broadcast}
 use Rattle.records.specs.declared.Records.{Records}
@@ -33,6 +34,7 @@ module _ (address key : List ℕ) (given : Records) where
     pub six : length address ≡ addressWidth
     pub eight : length key ≡ numberWidth
     pub own : broadcast address ≡ false
+    pub strong : weak key ≡ false
 
   abbrev Admits : Response → Type 0
   Admits r = r .number ≡ none → Accepted (r .card)
@@ -41,22 +43,33 @@ module _ (address key : List ℕ) (given : Records) where
   refuses n h = let z : ⊥ = omega arith in absurd z
 
   module _ (six : length address ≡ addressWidth) (eight : length key ≡ numberWidth) where
-    by-contents : (n : ℕ) → contentsNumber (used given) ≡ n → keepsRules given ≡ true → broadcast address ≡ false → Admits (admittedWith n (fresh address key given))
+    by-contents : (n : ℕ) → contentsNumber (used given) ≡ n → weak key ≡ false → keepsRules given ≡ true → broadcast address ≡ false
+        → Admits (admittedWith n (fresh address key given))
     unfolding admittedWith records.sound
-    by-contents zero e k own h = record { card = refl; sound = sound-means given .0 (rw (k, e)); six = six; eight = eight; own = own }
-    by-contents (suc n) e k own h = refuses n h
+    by-contents zero e strong k own h =
+        record { card = refl; sound = sound-means given .0 (rw (k, e)); six = six; eight = eight; own = own; strong = strong }
+    by-contents (suc n) e strong k own h = refuses n h
 
-    by-rules : (x : Bool) → keepsRules given ≡ x → broadcast address ≡ false → Admits (cond x (admittedWith (contentsNumber (used given)) (fresh address key given)) (refusedSetup brokenRule))
-    by-rules true e own h = by-contents (contentsNumber (used given)) refl e own h
+    -- 21, or the number of the contents
+    keyed : Bool → Response
+    keyed w = cond w (refusedSetup weakKey) (admittedWith (contentsNumber (used given)) (fresh address key given))
+
+    by-key : (x : Bool) → weak key ≡ x → keepsRules given ≡ true → broadcast address ≡ false → Admits (keyed x)
+    unfolding keyed
+    by-key true e k own h = refuses _ h
+    by-key false e k own h = by-contents (contentsNumber (used given)) refl e k own h
+
+    by-rules : (x : Bool) → keepsRules given ≡ x → broadcast address ≡ false → Admits (cond x (keyed (weak key)) (refusedSetup brokenRule))
+    by-rules true e own h = by-key (weak key) refl e own h
     by-rules false e own h = refuses _ h
 
     by-address : (x : Bool) → broadcast address ≡ x
-        → Admits (cond x (refusedSetup wrongAddress) (cond (keepsRules given) (admittedWith (contentsNumber (used given)) (fresh address key given)) (refusedSetup brokenRule)))
+        → Admits (cond x (refusedSetup wrongAddress) (cond (keepsRules given) (keyed (weak key)) (refusedSetup brokenRule)))
     by-address true e h = refuses _ h
     by-address false e h = by-rules (keepsRules given) refl e h
 
   by-lengths : (x : Bool) → (eqb (length address) addressWidth && eqb (length key) numberWidth) ≡ x → Admits (cond x (admitted address key given) (refusedSetup wrongLength))
-  unfolding admitted
+  unfolding admitted keyed
   by-lengths true e h =
       let both = and-eq-true-iff (eqb (length address) addressWidth) (eqb (length key) numberWidth) .0 e in
       by-address (eqb-true _ _ (both .0)) (eqb-true _ _ (both .1)) (broadcast address) refl h

@@ -9,6 +9,7 @@ use lib.ListN.{length, getD}
 use Rattle.octets.proofs.Parts.{getD-part}
 use Rattle.octets.specs.Part.{partOf}
 use Rattle.numbers.specs.Table.{none}
+use Rattle.des.specs.WeakKeys.{weak}
 use Rattle.frame.specs.Addresses.{broadcast}
 use Rattle.records.specs.declared.Record.{Record}
 use Rattle.records.specs.declared.Records.{Records}
@@ -131,6 +132,7 @@ module _ (before address key : List ℕ) (count : ℕ) (entries : List ℕ) (acc
         sound =
             record {
               address = ap broadcast start-address ∙ by-value .own;
+              key = ap weak start-key ∙ by-value .strong;
               fits = rw start-phase (omega arith);
               receiver = empty-sound (start .receiver) start-reception;
               records = start-records;

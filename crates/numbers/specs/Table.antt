@@ -1,4 +1,4 @@
--- The table of 01, Numbers handed back. Every definition and every promise names its numbers by these.
+-- The table of 01, Numbers handed back, and the numbers that 02's requests add. Every definition and every promise names its numbers by these.
 use Prim.Native.Nat.{ℕ}
 
 -- no number is given
@@ -77,3 +77,7 @@ unexpectedFrame = 19
 
 abbrev pub rejected : ℕ
 rejected = 20
+
+-- 02, E5: "Refusals: 21"
+abbrev pub weakKey : ℕ
+weakKey = 21

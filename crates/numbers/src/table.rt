@@ -1,4 +1,4 @@
-// The numbers handed back: document 01's table. `specs/Table.antt` has the same names.
+// The numbers handed back: document 01's table, and the numbers that document 02's requests add. `specs/Table.antt` has the same names.
 
 // No number is given.
 pub const NONE: u8 = 0;
@@ -42,3 +42,5 @@ pub const FAULTY_FILE: u8 = 18;
 pub const UNEXPECTED_FRAME: u8 = 19;
 
 pub const REJECTED: u8 = 20;
+// A key that is one of DES's weak keys.
+pub const WEAK_KEY: u8 = 21;

@@ -1,4 +1,4 @@
-// What programs print on standard output: words, numbers, octets, frames, records and swap files, and 01's numbers in words. A statement cannot speak of
+// What programs print on standard output: words, numbers, octets, frames, records and swap files, and the numbers handed back in words. A statement cannot speak of
 // what is printed, and nothing is given or written, so these functions promise no more than to be safe and to end.
 mod files;
 mod line;

@@ -1,4 +1,4 @@
-// The numbers of 01's table in words.
+// The numbers of the table in words.
 ghost use Prim.Native.Nat.{_≤_};
 ghost use lib.ListN.{length};
 use crate::line::print;
@@ -29,7 +29,7 @@ fn print_refused(number: u8) {
 // The words of the number: a line of the reasons.
 fn print_reason(number: u8) {
     let reasons =
-        b"\n (no number)\n (length N out of range)\n (CRC wrong)\n (gap inside a frame)\n (command not known)\n (length not of this command)\n (address of the wrong sort)\n (data too long)\n (ill-formed text)\n (too many characters)\n (no such record)\n (not open)\n (setup rule broken)\n (cipher wrong)\n (echo wrong)\n (session ended)\n (tool busy)\n (wrong length lent)\n (swap file faulty)\n (unexpected frame)\n (rejected)\n";
+        b"\n (no number)\n (length N out of range)\n (CRC wrong)\n (gap inside a frame)\n (command not known)\n (length not of this command)\n (address of the wrong sort)\n (data too long)\n (ill-formed text)\n (too many characters)\n (no such record)\n (not open)\n (setup rule broken)\n (cipher wrong)\n (echo wrong)\n (session ended)\n (tool busy)\n (wrong length lent)\n (swap file faulty)\n (unexpected frame)\n (rejected)\n (weak key)\n";
     let count = number as usize;
     let from = line_end(reasons, count);
     let to = line_end(reasons, count + 1);

@@ -1,7 +1,8 @@
 -- Finding, judging and granting refuse with a number of 7 to 11, and with no offset: what has no number is given.
-use Prim.Native.Nat.{ℕ, _≤_}
+use Prim.Native.Nat.{ℕ, zero, suc, _≤_}
 use mathlib.Core.Bool.{Bool, true, false, cond}
-use mathlib.Core.List.{List}
+use mathlib.Core.List.{List, [], _∷_}
+use mathlib.Core.Logic.{_⊎_, inl, inr}
 use mathlib.Core.Path.{_≡_, refl}
 use native.Mathlib.Omega.{arith}
 use lib.Dec.{ltb}
@@ -22,6 +23,7 @@ use Rattle.records.specs.declared.Refusal.the-variants.{TooLong, IllForm
 use Rattle.records.specs.Numbers.{refusalNumber}
 use Rattle.records.specs.Judging.{lengthOf, overLong, textAnswer, kindAnswer, acceptable, contents, contentsAnswer}
 use Rattle.records.specs.Finding.{blankAttributes, indexOf, find, findReadable}
+use Rattle.records.specs.Setup.{firstNumber, contentsNumber}
 use Rattle.records.specs.Writing.{opens, grant, grantAt}
 
 abbrev pub Bounded : {Values : Type 0} → Answer Values → Type 0
@@ -83,6 +85,26 @@ acceptable-bounded a d = cond-bounded (overLong (a .limit) (lengthOf d)) (refuse
 pub contents-bounded : (r : Record) → Bounded (contentsAnswer r)
 unfolding contentsAnswer
 contents-bounded r = cond-bounded (overLong (r .attributes .limit) (r .length)) (refused tooLong) (acceptable (r .attributes) (contents r)) (omega arith, omega arith) (acceptable-bounded (r .attributes) (contents r))
+
+-- the number of contents: none, or one of 7 to 11
+abbrev pub Judges : ℕ → Type 0
+Judges n = (n ≡ none) ⊎ ((tooLong ≤ n) × (n ≤ notOpen))
+
+answer-judges : {Values : Type 0} (a : Answer Values) → Bounded a → Judges (numberOf a)
+answer-judges (given v) h = inl refl
+answer-judges (refused n) h = inr h
+answer-judges (refusedAt n offset) h = absurd h
+
+first-judges : (n m : ℕ) → Judges n → Judges m → Judges (firstNumber n m)
+unfolding firstNumber
+first-judges zero m h k = k
+first-judges (suc n) m h k = h
+
+-- setup's contents, record by record
+pub contents-judge : (l : List Record) → Judges (contentsNumber l)
+unfolding contentsNumber
+contents-judge [] = inl refl
+contents-judge (r ∷ l) = first-judges (numberOf (contentsAnswer r)) (contentsNumber l) (answer-judges (contentsAnswer r) (contents-bounded r)) (contents-judge l)
 
 pub grant-bounded : (l : List Attributes) (cause : Cause) (t : ℕ) (d : List ℕ) → Bounded (grant l cause t d)
 unfolding grant grantAt

@@ -7,7 +7,7 @@ use native.Mathlib.Omega.{arith}
 use lib.Dec.{eqb, leb}
 use lib.ListN.{length, replicate}
 use borrow.Author.Tests.{eqb-true, leb-true, le-leb}
-use Rattle.numbers.specs.Table.{none, wrongAddress, tooLong, brokenRule, busy}
+use Rattle.numbers.specs.Table.{none, wrongAddress, tooLong, brokenRule, busy, weakKey}
 use Rattle.octets.specs.Between.{between}
 use Rattle.octets.specs.Splice.{spliced}
 use Rattle.octets.proofs.Impossible.{impossible}
@@ -20,7 +20,7 @@ use Rattle.tool.specs.declared.requests.Arguments.{Arguments}
 use Rattle.frame.specs.Sizes.{addressWidth, numberWidth, mostProgrammed, mostTransferred, longestFrame}
 use Rattle.tool.specs.Parts.{idle}
 use Rattle.tool.specs.Soundness.{sound}
-use Rattle.tool.specs.Requests.{Asking, zeroNumber, askingOf, sentCommand, addressable, limitOf, lentRightly, admission}
+use Rattle.tool.specs.Requests.{Asking, zeroNumber, askingOf, sentCommand, addressable, weaklyKeyed, limitOf, lentRightly, admission}
 
 -- what is lent for a request is as long as it must be
 pub record Lent (ads key na1 : List ℕ) (bufferLength : ℕ) : Type 0 where
@@ -42,24 +42,27 @@ lent ads key na1 bufferLength =
     go true false c d ea eb ec ed e = impossible (cc)
     go false b c d ea eb ec ed e = impossible (cc)
 
-pub record Admits (t : Tool) (r : Request) (ads d : List ℕ) : Type 0 where
+pub record Admits (t : Tool) (q : Asking) : Type 0 where
   pub sound : sound t ≡ true
   pub idle : idle (t .phase) ≡ true
-  pub sort : addressable r ads ≡ true
-  pub within : length d ≤ limitOf r
+  pub sort : addressable (q .request) (q .ads) ≡ true
+  pub key : weaklyKeyed (q .request) (q .key) ≡ false
+  pub within : length (q .content) ≤ limitOf (q .request)
 
-pub admits : (t : Tool) (r : Request) (ads d : List ℕ) → admission t r ads d ≡ none → Admits t r ads d
+pub admits : (t : Tool) (q : Asking) → admission t q ≡ none → Admits t q
 unfolding admission
-admits t r ads d =
-    go (sound t) (idle (t .phase)) (addressable r ads) (leb (length d) (limitOf r)) refl refl refl refl
+admits t q =
+    go (sound t) (idle (t .phase)) (addressable (q .request) (q .ads)) (weaklyKeyed (q .request) (q .key)) (leb (length (q .content)) (limitOf (q .request))) refl refl refl refl refl
   where
-    go : (s i x y : Bool) → sound t ≡ s → idle (t .phase) ≡ i → addressable r ads ≡ x → leb (length d) (limitOf r) ≡ y
-        → cond s (cond i (cond x (cond y none tooLong) wrongAddress) busy) brokenRule ≡ none → Admits t r ads d
-    go true true true true es ei ex ey e = record { sound = es; idle = ei; sort = ex; within = leb-true _ _ ey }
-    go true true true false es ei ex ey e = impossible (cc)
-    go true true false y es ei ex ey e = impossible (cc)
-    go true false x y es ei ex ey e = impossible (cc)
-    go false i x y es ei ex ey e = impossible (cc)
+    go : (s i x k y : Bool) → sound t ≡ s → idle (t .phase) ≡ i → addressable (q .request) (q .ads) ≡ x → weaklyKeyed (q .request) (q .key) ≡ k
+        → leb (length (q .content)) (limitOf (q .request)) ≡ y
+        → cond s (cond i (cond x (cond k weakKey (cond y none tooLong)) wrongAddress) busy) brokenRule ≡ none → Admits t q
+    go true true true false true es ei ex ek ey e = record { sound = es; idle = ei; sort = ex; key = ek; within = leb-true _ _ ey }
+    go true true true false false es ei ex ek ey e = impossible (cc)
+    go true true true true y es ei ex ek ey e = impossible (cc)
+    go true true false k y es ei ex ek ey e = impossible (cc)
+    go true false x k y es ei ex ek ey e = impossible (cc)
+    go false i x k y es ei ex ek ey e = impossible (cc)
 
 -- the limit of 01 is that of the request's frame
 pub limit-within : (r : Request) (n : ℕ) → n ≤ limitOf r → within (layoutOf (sentCommand r)) n ≡ true

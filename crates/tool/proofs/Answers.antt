@@ -4,7 +4,7 @@ use Rattle.numbers.specs.Table.{none}
 use Rattle.octets.proofs.Impossible.{impossible}
 use Rattle.frame.specs.declared.checks.Fault.the-variants.{OutOfRange, Crc, Cut, Unknown, Length}
 use Rattle.tool.specs.declared.Refusal.{Refusal}
-use Rattle.tool.specs.declared.Refusal.the-variants.{BadFrame, WrongAddress, TooLong, BrokenRule, WrongCipher, WrongEcho, SessionEnded, Busy, WrongLength, Unexpected, Rejected}
+use Rattle.tool.specs.declared.Refusal.the-variants.{BadFrame, WrongAddress, TooLong, BrokenRule, WrongCipher, WrongEcho, SessionEnded, Busy, WrongLength, Unexpected, Rejected, WeakKey}
 use Rattle.tool.specs.Answers.{refusalNumber}
 
 pub refusal-is-number : (r : Refusal) → refusalNumber r ≡ none → ⊥
@@ -23,3 +23,4 @@ refusal-is-number Busy e = impossible (cc)
 refusal-is-number WrongLength e = impossible (cc)
 refusal-is-number Unexpected e = impossible (cc)
 refusal-is-number Rejected e = impossible (cc)
+refusal-is-number WeakKey e = impossible (cc)

@@ -7,7 +7,7 @@ use lib.Dec.{eqb, leb}
 use lib.ListN.{length}
 use borrow.Author.Tests.{eqb-true}
 use Rattle.octets.proofs.Impossible.{impossible}
-use Rattle.numbers.specs.Table.{none, wrongAddress, tooLong, brokenRule, sessionEnded, busy, wrongLength}
+use Rattle.numbers.specs.Table.{none, wrongAddress, tooLong, brokenRule, sessionEnded, busy, wrongLength, weakKey}
 use Rattle.frame.specs.declared.codes.Command.{Command}
 use Rattle.frame.specs.Content.{fieldsOf, dataOf}
 use Rattle.receiver.specs.Receiving.{Reception, Outcome, Silent, Dropped, Complete, Step, to, onOctet, onGap, onSessionEnd}
@@ -17,7 +17,7 @@ use Rattle.tool.specs.declared.Tool.{Tool}
 use Rattle.frame.specs.Sizes.{longestFrame}
 use Rattle.tool.specs.Parts.{idle, Response, silent, refusing, over, finished}
 use Rattle.tool.specs.Soundness.{sound}
-use Rattle.tool.specs.Requests.{Asking, addressable, limitOf, lentRightly, admission, sending, unlessRefused, afterAsking}
+use Rattle.tool.specs.Requests.{Asking, addressable, weaklyKeyed, limitOf, lentRightly, admission, sending, unlessRefused, afterAsking}
 use Rattle.tool.specs.Replies.{authenticating}
 use Rattle.tool.specs.Events.{afterStep, heardAs, heardStep, Call, Ask, Octet, Gap, SessionEnd, after, afterOctet, afterGap, afterSessionEnd}
 use Rattle.tool.specs.Leaving.{KeepsAll, ReceiverOnly, Over, effectOf, unmade}
@@ -43,18 +43,26 @@ rule SessionEnd h = onSessionEnd h
 abbrev pub moved : Call → Tool → Tool
 moved x t = afterStep (rule x (receptionOf (t .receiver))) t
 
--- a refusal that leaves everything: 6, 7, 16 and 17, and 12 of a tool that is not sound
+-- a programming request with a weak key
+abbrev pub AsksWeakly : Call → Type 0
+AsksWeakly (Ask q l) = weaklyKeyed (q .request) (q .key) ≡ true
+AsksWeakly (Octet o l) = ⊥
+AsksWeakly Gap = ⊥
+AsksWeakly SessionEnd = ⊥
+
+-- a refusal that leaves everything: 6, 7, 16 and 17, 12 of a tool that is not sound, and 21 of a programming request with a weak key
 pub record Stays (t : Tool) (x : Call) (n : ℕ) : Type 0 where
   pub all : effectOf n ≡ KeepsAll
   pub numbered : eqb n none ≡ false
   pub unsound : n ≡ brokenRule → sound t ≡ false
+  pub weak : n ≡ weakKey → AsksWeakly x
   pub event : isEvent x ≡ true → unmade n ≡ true
 
 -- The response r of the tool t to the call x. It is refused, and everything stays; a request is sent; nothing comes of an event but in the receiver; a
 -- bad frame is dropped; the running request ends well, or with a number; or AUT is sent.
 pub data Course (t : Tool) (x : Call) (r : Response) : Type 0 where
   stays : (n : ℕ) → Stays t x n → r ≡ refusing t n → Course t x r
-  asks : (q : Asking) (l : ℕ) → x ≡ Ask q l → Lent (q .ads) (q .key) (q .na1) l → Admits t (q .request) (q .ads) (q .content) → r ≡ sending q t → Course t x r
+  asks : (q : Asking) (l : ℕ) → x ≡ Ask q l → Lent (q .ads) (q .key) (q .na1) l → Admits t q → r ≡ sending q t → Course t x r
   passes : isEvent x ≡ true → r ≡ silent (moved x t) → Course t x r
   drops : isEvent x ≡ true → (n : ℕ) → effectOf n ≡ ReceiverOnly → r ≡ refusing (moved x t) n → Course t x r
   ends : isEvent x ≡ true → idle (t .phase) ≡ false → (d : List ℕ) → r ≡ finished d (moved x t) → Course t x r
@@ -64,37 +72,38 @@ pub data Course (t : Tool) (x : Call) (r : Response) : Type 0 where
 
 module _ (t : Tool) where
   lent-stays : (x : Call) → Stays t x wrongLength
-  lent-stays x = record { all = refl; numbered = refl; unsound = λ e. impossible (cc); event = λ e. refl }
+  lent-stays x = record { all = refl; numbered = refl; unsound = λ e. impossible (cc); weak = λ e. impossible (cc); event = λ e. refl }
 
   broken-stays : (x : Call) → sound t ≡ false → Stays t x brokenRule
-  broken-stays x s = record { all = refl; numbered = refl; unsound = λ e. s; event = λ e. refl }
+  broken-stays x s = record { all = refl; numbered = refl; unsound = λ e. s; weak = λ e. impossible (cc); event = λ e. refl }
 
   -- what a refused request leaves
   module _ (q : Asking) (l : ℕ) where
-    admission-stays : eqb (admission t (q .request) (q .ads) (q .content)) none ≡ false → Stays t (Ask q l) (admission t (q .request) (q .ads) (q .content))
+    admission-stays : eqb (admission t q) none ≡ false → Stays t (Ask q l) (admission t q)
     unfolding admission
-    admission-stays = go (sound t) (idle (t .phase)) (addressable (q .request) (q .ads)) (leb (length (q .content)) (limitOf (q .request))) refl
+    admission-stays = go (sound t) (idle (t .phase)) (addressable (q .request) (q .ads)) (weaklyKeyed (q .request) (q .key)) (leb (length (q .content)) (limitOf (q .request))) refl refl
       where
-        go : (s i a w : Bool) → sound t ≡ s → eqb (cond s (cond i (cond a (cond w none tooLong) wrongAddress) busy) brokenRule) none ≡ false
-            → Stays t (Ask q l) (cond s (cond i (cond a (cond w none tooLong) wrongAddress) busy) brokenRule)
-        go true true true true es e = impossible (cc)
-        go true true true false es e = record { all = refl; numbered = refl; unsound = λ z. impossible (cc); event = λ z. impossible (cc) }
-        go true true false w es e = record { all = refl; numbered = refl; unsound = λ z. impossible (cc); event = λ z. impossible (cc) }
-        go true false a w es e = record { all = refl; numbered = refl; unsound = λ z. impossible (cc); event = λ z. impossible (cc) }
-        go false i a w es e = broken-stays (Ask q l) es
+        go : (s i a k w : Bool) → sound t ≡ s → weaklyKeyed (q .request) (q .key) ≡ k → eqb (cond s (cond i (cond a (cond k weakKey (cond w none tooLong)) wrongAddress) busy) brokenRule) none ≡ false
+            → Stays t (Ask q l) (cond s (cond i (cond a (cond k weakKey (cond w none tooLong)) wrongAddress) busy) brokenRule)
+        go true true true false true es ek e = impossible (cc)
+        go true true true false false es ek e = record { all = refl; numbered = refl; unsound = λ z. impossible (cc); weak = λ z. impossible (cc); event = λ z. impossible (cc) }
+        go true true true true w es ek e = record { all = refl; numbered = refl; unsound = λ z. impossible (cc); weak = λ z. ek; event = λ z. impossible (cc) }
+        go true true false k w es ek e = record { all = refl; numbered = refl; unsound = λ z. impossible (cc); weak = λ z. impossible (cc); event = λ z. impossible (cc) }
+        go true false a k w es ek e = record { all = refl; numbered = refl; unsound = λ z. impossible (cc); weak = λ z. impossible (cc); event = λ z. impossible (cc) }
+        go false i a k w es ek e = broken-stays (Ask q l) es
 
     ask-course : Course t (Ask q l) (afterAsking t q l)
     unfolding afterAsking unlessRefused
     ask-course = tested (lentRightly (q .ads) (q .key) (q .na1) l) refl
       where
-        judged : lentRightly (q .ads) (q .key) (q .na1) l ≡ true → (b : Bool) → eqb (admission t (q .request) (q .ads) (q .content)) none ≡ b
-            → Course t (Ask q l) (cond b (sending q t) (refusing t (admission t (q .request) (q .ads) (q .content))))
-        judged p true e = asks q l refl (lent _ _ _ _ p) (admits _ _ _ _ (eqb-true _ _ e)) refl
+        judged : lentRightly (q .ads) (q .key) (q .na1) l ≡ true → (b : Bool) → eqb (admission t q) none ≡ b
+            → Course t (Ask q l) (cond b (sending q t) (refusing t (admission t q)))
+        judged p true e = asks q l refl (lent _ _ _ _ p) (admits _ _ (eqb-true _ _ e)) refl
         judged p false e = stays _ (admission-stays e) refl
 
         tested : (b : Bool) → lentRightly (q .ads) (q .key) (q .na1) l ≡ b
-            → Course t (Ask q l) (cond b (cond (eqb (admission t (q .request) (q .ads) (q .content)) none) (sending q t) (refusing t (admission t (q .request) (q .ads) (q .content)))) (refusing t wrongLength))
-        tested true p = judged p (eqb (admission t (q .request) (q .ads) (q .content)) none) refl
+            → Course t (Ask q l) (cond b (cond (eqb (admission t q) none) (sending q t) (refusing t (admission t q))) (refusing t wrongLength))
+        tested true p = judged p (eqb (admission t q) none) refl
         tested false p = stays wrongLength (lent-stays (Ask q l)) refl
 
   -- what a good frame does, by the tool before the receiver's step

@@ -18,6 +18,7 @@ use Rattle.tool.specs.Answers.{Progress, nothing, sent, done}
 use Rattle.tool.specs.Parts.{fresh}
 use Rattle.tool.specs.Soundness.{sound}
 use Rattle.tool.specs.Requests.{Asking, reading, transferring, programming, fieldsTo, zeroNumber, admission, unlessRefused, afterAsking}
+use Rattle.des.specs.WeakKeys.{withoutParity, weakKeys, weak}
 use Rattle.tool.specs.Replies.{enciphers, echoes, onEcho, turn, performed, expected, onFrame}
 use Rattle.tool.specs.Events.{Ask, after}
 
@@ -115,5 +116,5 @@ worked : exchanges
     ∷ (refused 14 ∷ [])
     ∷ (refused 19 ∷ [])
     ∷ []
-unfolding exchanges read transfer program elsewhere echo ech dat plain exchange answersOf station label key na1 na1k after afterAsking admission unlessRefused sound receiver.sound broadcast same spliced fronted onFrame expected performed turn onEcho enciphers echoes encipher computation bitsOf number bits octets permuted _⊕_ sBox selected f round rounds exchanged leftShift bothShifted keyHalves roundKey IP inverseIP E P PC1 PC2 leftShifts boxes flatMap zipWith
+unfolding exchanges read transfer program elsewhere echo ech dat plain exchange answersOf station label key na1 na1k after afterAsking admission unlessRefused weak weakKeys withoutParity sound receiver.sound broadcast same spliced fronted onFrame expected performed turn onEcho enciphers echoes encipher computation bitsOf number bits octets permuted _⊕_ sBox selected f round rounds exchanged leftShift bothShifted keyHalves roundKey IP inverseIP E P PC1 PC2 leftShifts boxes flatMap zipWith
 worked = refl

@@ -11,6 +11,8 @@ pub mod Endings
 pub mod Exactly
 pub mod Courses
 pub mod Refusals
+pub mod Order
+pub mod WeakKeys
 pub mod StaysSound
 pub mod Feeding
 pub mod Logging

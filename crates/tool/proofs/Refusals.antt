@@ -1,4 +1,4 @@
--- What a refusal leaves is 01's table, and 12 is given to tools alone that are not sound.
+-- What a refusal leaves is 01's table; 12 is given to tools alone that are not sound, and 21 to programming requests alone with a weak key.
 use Prim.Native.Nat.{ℕ}
 use mathlib.Core.Path.{_≡_, refl, sym, ap, _∙_}
 use mathlib.Core.Bool.{false}
@@ -6,7 +6,7 @@ use lib.Dec.{eqb}
 use borrow.Author.Tests.{ne-eqb}
 use Rattle.octets.proofs.Impossible.{impossible}
 use Rattle.numbers.specs.Answer.{Answer, given, refused, numberOf}
-use Rattle.numbers.specs.Table.{none, brokenRule}
+use Rattle.numbers.specs.Table.{none, brokenRule, weakKey}
 use Rattle.receiver.specs.declared.Receiver.{Receiver}
 use Rattle.tool.specs.declared.Tool.{Tool}
 use Rattle.tool.specs.Answers.{Progress, nothing, sent, done}
@@ -15,7 +15,7 @@ use Rattle.tool.specs.Soundness.{sound}
 use Rattle.tool.specs.Requests.{progressOf}
 use Rattle.tool.specs.Events.{Call, after}
 use Rattle.tool.specs.Leaving.{Effect, KeepsAll, ReceiverOnly, Over, effectOf, leftAs}
-use Rattle.tool.proofs.Courses.{Course, stays, asks, passes, drops, ends, fails, echoes, course}
+use Rattle.tool.proofs.Courses.{AsksWeakly, Course, stays, asks, passes, drops, ends, fails, echoes, course}
 
 answer-of : {r s : Response} → r ≡ s → r .answer ≡ s .answer
 answer-of e = ap (λ (s : Response). s .answer) e
@@ -78,6 +78,19 @@ course-unsound t x r (echoes v c s u w h e) b = unrefused sent brokenRule e refl
 
 pub unsound-if-12 : (t : Tool) (x : Call) → after t x .answer ≡ refused brokenRule → sound t ≡ false
 unsound-if-12 t x = course-unsound t x (after t x) (course t x)
+
+-- 21 is given to programming requests alone with a weak key
+course-weak : (t : Tool) (x : Call) (r : Response) → Course t x r → r .answer ≡ refused weakKey → AsksWeakly x
+course-weak t x r (stays m s e) b = s .weak (same-number e refl b)
+course-weak t x r (asks q l z p a e) b = unrefused (progressOf (q .request)) weakKey e refl b
+course-weak t x r (passes v e) b = unrefused nothing weakKey e refl b
+course-weak t x r (drops v m f e) b = let z : ReceiverOnly ≡ effectOf weakKey = sym f ∙ ap effectOf (same-number e refl b) in impossible (cc)
+course-weak t x r (ends v i d e) b = unrefused done weakKey e refl b
+course-weak t x r (fails v i m f e) b = let z : Over ≡ effectOf weakKey = sym f ∙ ap effectOf (same-number e refl b) in impossible (cc)
+course-weak t x r (echoes v c s u w h e) b = unrefused sent weakKey e refl b
+
+pub asks-weakly-if-21 : (t : Tool) (x : Call) → after t x .answer ≡ refused weakKey → AsksWeakly x
+asks-weakly-if-21 t x = course-weak t x (after t x) (course t x)
 
 -- every call answers with a number, or without one
 pub data Plain (a : Answer Progress) : Type 0 where

@@ -1,11 +1,11 @@
 -- What an answer says: 01's number, or how far the request has come (01, Numbers handed back).
 use Prim.Native.Nat.{ℕ}
 use mathlib.Core.Bool.{Bool, true, false}
-use Rattle.numbers.specs.Table.{wrongAddress, tooLong, brokenRule, wrongCipher, wrongEcho, sessionEnded, busy, wrongLength, unexpectedFrame, rejected}
+use Rattle.numbers.specs.Table.{wrongAddress, tooLong, brokenRule, wrongCipher, wrongEcho, sessionEnded, busy, wrongLength, unexpectedFrame, rejected, weakKey}
 use Rattle.numbers.specs.Answer.{Answer, given, refused, refusedAt}
 use Rattle.frame.specs.Checks.{faultNumber}
 use Rattle.tool.specs.declared.Refusal.{Refusal}
-use Rattle.tool.specs.declared.Refusal.the-variants.{BadFrame, WrongAddress, TooLong, BrokenRule, WrongCipher, WrongEcho, SessionEnded, Busy, WrongLength, Unexpected, Rejected}
+use Rattle.tool.specs.declared.Refusal.the-variants.{BadFrame, WrongAddress, TooLong, BrokenRule, WrongCipher, WrongEcho, SessionEnded, Busy, WrongLength, Unexpected, Rejected, WeakKey}
 use Rattle.tool.specs.declared.Answer as code
 use Rattle.tool.specs.declared.Answer.the-variants as variant
 
@@ -21,6 +21,7 @@ refusalNumber Busy = busy
 refusalNumber WrongLength = wrongLength
 refusalNumber Unexpected = unexpectedFrame
 refusalNumber Rejected = rejected
+refusalNumber WeakKey = weakKey
 
 -- Without a number: nothing is to be done; a frame is to be sent, and a reply is awaited; the request has ended.
 pub data Progress : Type 0 where

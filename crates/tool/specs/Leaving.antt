@@ -26,7 +26,7 @@ badFrames = lengthOutOfRange ∷ wrongCheckKey ∷ cutFrame ∷ unknownCommand �
 abbrev pub endings : List ℕ
 endings = wrongCipher ∷ wrongEcho ∷ sessionEnded ∷ unexpectedFrame ∷ rejected ∷ []
 
--- the table: the others, 6, 7, 12, 16 and 17, are a request's, or leave everything
+-- the table: the others, 6, 7, 12, 16, 17 and 02's 21, are a request's, or leave everything
 abbrev pub effectOf : ℕ → Effect
 effectOf n = cond (oneOf n badFrames) ReceiverOnly (cond (oneOf n endings) Over KeepsAll)
 

@@ -5,9 +5,10 @@ use mathlib.Core.List.{List, []}
 use lib.Dec.{eqb, leb}
 use lib.ListN.{length, replicate}
 use Rattle.octets.specs.Splice.{fronted}
+use Rattle.des.specs.WeakKeys.{weak}
 use Rattle.numbers.specs.Answer.{given}
 use Rattle.numbers.specs.Counts.{inOctets}
-use Rattle.numbers.specs.Table.{none, wrongAddress, tooLong, brokenRule, busy, wrongLength}
+use Rattle.numbers.specs.Table.{none, wrongAddress, tooLong, brokenRule, busy, wrongLength, weakKey}
 use Rattle.frame.specs.Addresses.{broadcast}
 use Rattle.frame.specs.declared.codes.Command.{Command}
 use Rattle.frame.specs.declared.codes.Command.the-variants as command
@@ -85,6 +86,14 @@ broadcasts Ib = true
 abbrev pub addressable : Request → List ℕ → Bool
 addressable r ads = cond (broadcasts r) (broadcast ads) (not (broadcast ads))
 
+-- 02, E5: "the tool's programming request" has a weak key; the other requests have no key to test
+abbrev pub weaklyKeyed : Request → List ℕ → Bool
+weaklyKeyed Enq key = false
+weaklyKeyed Trf key = false
+weaklyKeyed Rec key = weak key
+weaklyKeyed Trb key = false
+weaklyKeyed Ib key = false
+
 -- "then DATA over 100 (program) or 116 (7)"; ENQ and IB have none
 abbrev pub limitOf : Request → ℕ
 limitOf Enq = 0
@@ -98,13 +107,14 @@ abbrev pub lentRightly : List ℕ → List ℕ → List ℕ → ℕ → Bool
 lentRightly ads key na1 bufferLength =
     eqb (length ads) addressWidth && (eqb (length key) numberWidth && (eqb (length na1) numberWidth && leb longestFrame bufferLength))
 
--- the number that a request is refused with of which all is lent rightly, or none: 12, 16, 6, 7
-unfoldable pub admission : Tool → Request → List ℕ → List ℕ → ℕ
-admission t r ads d =
+-- the number that a request is refused with of which all is lent rightly, or none: 12, 16, 6, 21, 7; 02, E5: 21 "in the tool after 6 and before 7"
+unfoldable pub admission : Tool → Asking → ℕ
+admission t q =
     cond (sound t)
     (cond (idle (t .phase))
-    (cond (addressable r ads)
-    (cond (leb (length d) (limitOf r)) none tooLong)
+    (cond (addressable (q .request) (q .ads))
+    (cond (weaklyKeyed (q .request) (q .key)) weakKey
+    (cond (leb (length (q .content)) (limitOf (q .request))) none tooLong))
     wrongAddress)
     busy)
     brokenRule
@@ -165,9 +175,9 @@ sending q t =
 unfoldable pub unlessRefused : ℕ → Tool → Response → Response
 unlessRefused number t r = cond (eqb number none) r (refusing t number)
 
--- "so 17, 12, 16, 6, 7"
+-- "so 17, 12, 16, 6, 7", with 21 between the last two
 unfoldable pub afterAsking : Tool → Asking → ℕ → Response
 afterAsking t q bufferLength =
     cond (lentRightly (q .ads) (q .key) (q .na1) bufferLength)
-    (unlessRefused (admission t (q .request) (q .ads) (q .content)) t (sending q t))
+    (unlessRefused (admission t q) t (sending q t))
     (refusing t wrongLength)

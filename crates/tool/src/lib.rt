@@ -25,6 +25,7 @@ use numbers::table::REJECTED;
 use numbers::table::SESSION_ENDED;
 use numbers::table::TOO_LONG;
 use numbers::table::UNEXPECTED_FRAME;
+use numbers::table::WEAK_KEY;
 use numbers::table::WRONG_ADDRESS;
 use numbers::table::WRONG_CIPHER;
 use numbers::table::WRONG_ECHO;
@@ -70,6 +71,7 @@ pub enum Refusal {
     WrongLength,
     Unexpected,
     Rejected,
+    WeakKey,
 }
 
 // What the host is told: nothing; a frame is to be sent, and a reply is awaited; the request has ended well; or a refusal.
@@ -125,6 +127,7 @@ impl Refusal {
             Refusal::WrongLength => WRONG_LENGTH,
             Refusal::Unexpected => UNEXPECTED_FRAME,
             Refusal::Rejected => REJECTED,
+            Refusal::WeakKey => WEAK_KEY,
         }
     }
 }

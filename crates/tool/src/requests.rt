@@ -10,7 +10,7 @@ ghost use Rattle.wake.specs.Rule.{wakeBefore};
 ghost use Rattle.frame.specs.Sizes.{addressWidth, mostProgrammed, longestFrame};
 ghost use Rattle.tool.specs.Answers.{answerOf};
 ghost use Rattle.tool.specs.Parts.{lastOf, answerOfRequested, Gives};
-ghost use Rattle.tool.specs.Requests.{zeroNumber, askingOf, reading, transferring, programming, broadcasting, initialising, sentCommand, broadcasts, addressable, limitOf, lentRightly, admission, numberOfAdmission, fieldsTo, waiting, keeping, running, progressOf, asked, sending, afterAsking};
+ghost use Rattle.tool.specs.Requests.{zeroNumber, askingOf, reading, transferring, programming, broadcasting, initialising, sentCommand, broadcasts, addressable, weaklyKeyed, limitOf, lentRightly, admission, numberOfAdmission, fieldsTo, waiting, keeping, running, progressOf, asked, sending, afterAsking};
 use crate::Answer;
 use crate::Phase;
 use crate::Refusal;
@@ -18,6 +18,7 @@ use crate::Requested;
 use crate::Tool;
 use crate::frames::fields_to;
 use crate::frames::send;
+use des::keys::weak;
 use frame::Command;
 use frame::Fields;
 use frame::sizes::ADDRESS_WIDTH;
@@ -123,6 +124,19 @@ fn addressable(request: Request, ads: &[u8]) -> bool
     }
 }
 
+// Whether a request is one for programming, with a weak key.
+fn weakly_keyed(request: Request, key: [u8; NUMBER_WIDTH]) -> bool
+    ensures { λ r. ⌜ r ≡ weaklyKeyed request key ⌝ }
+{
+    match request {
+        Request::Enq => false,
+        Request::Trf => false,
+        Request::Rec => weak(key),
+        Request::Trb => false,
+        Request::Ib => false,
+    }
+}
+
 // The most DATA that a request can have.
 fn limit_of(request: Request) -> Octets
     ensures { λ r. ⌜ r ≡ inOctets (limitOf request) ⌝ }
@@ -153,9 +167,9 @@ fn lent_rightly(ads: &[u8], key: &[u8], na1: &[u8], frame: &[u8]) -> bool
 }
 
 impl Tool {
-    // The tests of a request of which all is lent rightly: 12, 16, 6, 7.
-    fn admission(self, request: Request, ads: &[u8], data: &[u8]) -> Admission
-        ensures { λ r. ⌜ numberOfAdmission r ≡ admission self request (now (ads .entry)) (now («data» .entry)) ⌝ }
+    // The tests of a request of which all is lent rightly: 12, 16, 6, 21, 7.
+    fn admission(self, arguments: Arguments, data: &[u8]) -> Admission
+        ensures { λ r. ⌜ numberOfAdmission r ≡ admission self (askingOf arguments (now («data» .entry))) ⌝ }
     {
         if !self.sound() {
             return Admission::Refused(Refusal::BrokenRule);
@@ -164,8 +178,14 @@ impl Tool {
         if !phase.idle() {
             return Admission::Refused(Refusal::Busy);
         }
-        if !addressable(request, ads) {
+        let request = arguments.request;
+        let ads = arguments.ads;
+        if !addressable(request, &ads) {
             return Admission::Refused(Refusal::WrongAddress);
+        }
+        let key = arguments.key;
+        if weakly_keyed(request, key) {
+            return Admission::Refused(Refusal::WeakKey);
         }
         let limit = limit_of(request);
         if limit.0 < data.len() {
@@ -271,7 +291,7 @@ impl Tool {
         }
     }
 
-    // A request: 17, 12, 16, 6, 7; else it is sent.
+    // A request: 17, 12, 16, 6, 21, 7; else it is sent.
     fn ask(
         self,
         request: Request,
@@ -288,12 +308,10 @@ impl Tool {
         if !lent_rightly(ads, key, na1, frame) {
             return self.refusing(Refusal::WrongLength);
         }
-        let admission = self.admission(request, ads, data);
+        let arguments = arguments_of(request, ads, adp, tab, key, na1);
+        let admission = self.admission(arguments, data);
         match admission {
-            Admission::Admitted => {
-                let arguments = arguments_of(request, ads, adp, tab, key, na1);
-                self.sending(arguments, data, frame)
-            }
+            Admission::Admitted => self.sending(arguments, data, frame),
             Admission::Refused(refusal) => self.refusing(refusal),
         }
     }

@@ -1,4 +1,4 @@
--- What 6, 7, 12, 16 and 17 leave of tool memory: every octet, whatever the memory holds. A memory that is not sound gets 12 or 17 from every call.
+-- What 6, 7, 12, 16, 17 and 21 leave of tool memory: every octet, whatever the memory holds. A memory that is not sound gets 12 or 17 from every call.
 use Prim.Native.Nat.{ℕ, _<_}
 use mathlib.Core.Path.{_≡_, refl, sym, ap, _∙_}
 use mathlib.Core.Bool.{Bool, true, false, cond, and-eq-true-iff}
@@ -70,7 +70,7 @@ module _ (m : List ℕ) (sized : length m ≡ size) (few : getD m lengthAt 0 < 2
   unfolding left
   memory-stored = rw e
 
-  -- "what stays": at 6, 7, 12, 16 and 17 every octet of the memory
+  -- "what stays": at 6, 7, 12, 16, 17 and 21 every octet of the memory
   pub left-unchanged : effectOf n ≡ KeepsAll → left m x ≡ m
   unfolding stored leftAs
   left-unchanged k = memory-stored ∙ go (unmade n) refl

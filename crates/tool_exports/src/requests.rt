@@ -1,4 +1,4 @@
-// The five requests. Each tests 17, 12, 16, 6, 7 in this order; a refusal changes nothing.
+// The five requests. Each tests 17, 12, 16, 6, 7 in this order, programming 21 before 7; a refusal changes nothing.
 ghost use mathlib.Core.Path.{_≡_};
 ghost use Rattle.tool.specs.Parts.{answerOfRequested};
 ghost use Rattle.tool.specs.Requests.{reading, transferring, programming, broadcasting, initialising};

@@ -41,6 +41,18 @@ returns-2 c =
     rw (← c .before .before .before .before .broadcast .ensures, c .before .before .before .if1 .left, ← c .before .before .keeps-rules .ensures, not-true (c .before .before .keeps-rules .result) (c .before .if2 .taken))
     (c .refused-setup2 .ensures)
 
+weak-requires : tie.Need-weak-requires
+weak-requires c κs = search needs
+
+refused-setup-requires-3 : tie.Need-refused-setup-requires-3
+refused-setup-requires-3 c κs = search needs
+
+returns-3 : tie.Need-returns-3
+unfolding admitted
+returns-3 c =
+    rw (← c .before .before .before .before .before .before .broadcast .ensures, c .before .before .before .before .before .if1 .left, ← c .before .before .before .before .keeps-rules .ensures, not-false (c .before .before .before .before .keeps-rules .result) (c .before .before .before .if2 .left), ← c .before .before .weak .ensures, c .before .if3 .taken)
+    (c .refused-setup3 .ensures)
+
 contents-answers-requires : tie.Need-contents-answers-requires
 contents-answers-requires c κs = search needs
 
@@ -53,17 +65,17 @@ enum-told-2 c = search needs
 write-answer-requires : tie.Need-write-answer-requires
 write-answer-requires c κs = search needs
 
-refused-setup-requires-3 : tie.Need-refused-setup-requires-3
-refused-setup-requires-3 c κs = search needs
+refused-setup-requires-4 : tie.Need-refused-setup-requires-4
+refused-setup-requires-4 c κs = search needs
 
-returns-3 : tie.Need-returns-3
+returns-4 : tie.Need-returns-4
 unfolding admitted
-returns-3 c =
+returns-4 c =
     let refusal = c .before .before .enum-told2 .given .0 .0 in
     let number = sym (c .before .before .before .before .contents-answers .ensures) ∙ ap writeNumber (c .before .before .enum-told2 .given .1) in
     let some : writeNumber (c .before .before .before .before .contents-answers .result) ≡ none → ⊥ = λ e. omega (arith, sym number ∙ sym (c .before .before .before .before .contents-answers .ensures) ∙ e, refusal-bounds refusal .0) in
-    rw (← c .before .before .before .before .before .before .before .before .broadcast .ensures, c .before .before .before .before .before .before .before .if1 .left, ← c .before .before .before .before .before .before .keeps-rules .ensures, not-false (c .before .before .before .before .before .before .keeps-rules .result) (c .before .before .before .before .before .if2 .left), ← c .before .before .before .before .contents-answers .ensures, refused-contents (writeNumber (c .before .before .before .before .contents-answers .result)) _ some, ← c .before .write-answer .ensures)
-    (c .refused-setup3 .ensures)
+    rw (← c .before .before .before .before .before .before .before .before .before .before .broadcast .ensures, c .before .before .before .before .before .before .before .before .before .if1 .left, ← c .before .before .before .before .before .before .before .before .keeps-rules .ensures, not-false (c .before .before .before .before .before .before .before .before .keeps-rules .result) (c .before .before .before .before .before .before .before .if2 .left), ← c .before .before .before .before .before .before .weak .ensures, c .before .before .before .before .before .if3 .left, ← c .before .before .before .before .contents-answers .ensures, refused-contents (writeNumber (c .before .before .before .before .contents-answers .result)) _ some, ← c .before .write-answer .ensures)
+    (c .refused-setup4 .ensures)
 
 fresh-requires : tie.Need-fresh-requires
 fresh-requires c κs = search needs
@@ -71,12 +83,32 @@ fresh-requires c κs = search needs
 answered-requires : tie.Need-answered-requires
 answered-requires c κs = search needs
 
-returns-4 : tie.Need-returns-4
+returns-5 : tie.Need-returns-5
 unfolding admitted admittedWith
-returns-4 c =
+returns-5 c =
     let number = sym (c .before .before .before .before .contents-answers .ensures) ∙ ap writeNumber (c .before .before .enum-told .given .1) in
-    rw (← c .before .before .before .before .before .before .before .before .broadcast .ensures, c .before .before .before .before .before .before .before .if1 .left, ← c .before .before .before .before .before .before .keeps-rules .ensures, not-false (c .before .before .before .before .before .before .keeps-rules .result) (c .before .before .before .before .before .if2 .left), number, ← c .before .fresh .ensures)
+    rw (← c .before .before .before .before .before .before .before .before .before .before .broadcast .ensures, c .before .before .before .before .before .before .before .before .before .if1 .left, ← c .before .before .before .before .before .before .before .before .keeps-rules .ensures, not-false (c .before .before .before .before .before .before .before .before .keeps-rules .result) (c .before .before .before .before .before .before .before .if2 .left), ← c .before .before .before .before .before .before .weak .ensures, c .before .before .before .before .before .if3 .left, number, ← c .before .fresh .ensures)
     (told _ _ _ _ (c .answered .ensures) refl)
 
 pub admitted-spec : {M : Type 1} → statement M
-admitted-spec = tie.close (tie.spec broadcast-requires refused-setup-requires returns keeps-rules-requires refused-setup-requires-2 returns-2 contents-answers-requires enum-told enum-told-2 write-answer-requires refused-setup-requires-3 returns-3 fresh-requires answered-requires returns-4)
+admitted-spec =
+    tie.close
+    (tie.spec
+    broadcast-requires
+    refused-setup-requires
+    returns
+    keeps-rules-requires
+    refused-setup-requires-2
+    returns-2
+    weak-requires
+    refused-setup-requires-3
+    returns-3
+    contents-answers-requires
+    enum-told
+    enum-told-2
+    write-answer-requires
+    refused-setup-requires-4
+    returns-4
+    fresh-requires
+    answered-requires
+    returns-5)
