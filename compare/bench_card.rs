@@ -1,10 +1,12 @@
-//! Self-tests on 01's rows of the card: setup, exchanges, what is tempting and wrong, and what 12 refuses.
+//! Self-tests on 01's rows of the card: setup, exchanges, what is tempting and wrong, and what 12 refuses;
+//! and on E5's keys in them.
 
 use crate::bench::{ADDRESS, FOREIGN, KEY, NA1, NA2};
 use crate::card::{Answer, Card, Wait};
 use crate::des;
-use crate::frame::{self, Address, Body, Frame, Number, BROADCAST};
+use crate::frame::{self, Address, Block, Body, Frame, Number, BROADCAST};
 use crate::hex::{self, Hex};
+use crate::keys::{self, SEMI_WEAK, WEAK};
 use crate::receiver::Receiver;
 use crate::record::{Record, LABEL, RAW};
 use crate::report::{same, Case, Disagreement};
@@ -28,7 +30,7 @@ fn record(tab: u8, kind: u8, data: &[u8]) -> Record {
     }
 }
 
-/// Setup's order: 17, 6, 12 over all records, then contents record by record.
+/// Setup's order: 17, 6, 12 over all records, 21, then contents record by record.
 pub fn setups() -> Result<usize, Disagreement> {
     let ill_formed = record(1, LABEL, &[0x80]);
     let too_many = record(2, LABEL, b"four");
@@ -36,12 +38,15 @@ pub fn setups() -> Result<usize, Disagreement> {
     let unknown_kind = record(4, 2, &[]);
     let far_limit = Record { octet_limit: Octets(117), ..record(5, RAW, &[]) };
     let many: Vec<Record> = (0..33).map(|tab| record(tab, RAW, &[])).collect();
-    let rows: [(&[u8], &[u8], &[Record], Option<Number>); 13] = [
+    let rows: [(&[u8], &[u8], &[Record], Option<Number>); 16] = [
         (&BROADCAST[..5], &KEY, &[unknown_kind.clone()], Some(17)),
         (&ADDRESS, &KEY[..7], &[], Some(17)),
         (&BROADCAST, &KEY, &[unknown_kind.clone()], Some(6)),
         (&ADDRESS, &KEY, &many, Some(12)),
         (&ADDRESS, &KEY, &many[..32], None),
+        (&ADDRESS, &WEAK[0][..7], &[], Some(17)),
+        (&BROADCAST, &WEAK[0], &[], Some(6)),
+        (&ADDRESS, &WEAK[0], &many, Some(12)),
         (&ADDRESS, &KEY, &[ill_formed.clone(), unknown_kind], Some(12)),
         (&ADDRESS, &KEY, &[ill_formed.clone(), far_limit], Some(12)),
         (&ADDRESS, &KEY, &[ill_formed.clone(), ill_formed.clone()], Some(12)),
@@ -55,6 +60,26 @@ pub fn setups() -> Result<usize, Disagreement> {
         same(Card::setup(address, key, records).err(), *expected, || format!("setup row {row}"))?;
     }
     Ok(rows.len())
+}
+
+/// 02, E5: each of the four keys is 21, before contents that are 7, 8 or 9 and whatever its parity. A
+/// semi-weak key is accepted, and so is one a bit away from a weak one.
+pub fn setup_keys() -> Result<usize, Disagreement> {
+    let contents: [(&[u8], Option<Number>); 4] =
+        [(b"old", None), (&[b'e'; 11], Some(7)), (&[0x80], Some(8)), (b"four", Some(9))];
+    let accepted =
+        [KEY, SEMI_WEAK[0][0], SEMI_WEAK[1][1], keys::turned(WEAK[0], 1), keys::turned(WEAK[2], 63)];
+    let refused =
+        WEAK.into_iter().flat_map(|key| [key, keys::with_parity(key, 0x08), keys::with_parity(key, 0xFF)]);
+    let rows: Vec<_> = refused.map(|key| (key, true)).chain(accepted.map(|key| (key, false))).collect();
+    for (key, weak) in &rows {
+        for (data, number) in contents {
+            let setup = Card::setup(&ADDRESS, key, &[record(1, LABEL, data)]);
+            let expected = if *weak { Some(21) } else { number };
+            same(setup.err(), expected, || format!("setup with the key {}", hex::text(key)))?;
+        }
+    }
+    Ok(rows.len() * contents.len())
 }
 
 /// A card with one label, fed whole frames with NA2 lent for each octet.
@@ -178,8 +203,16 @@ pub fn soundness() -> Result<usize, Disagreement> {
     };
     let label = record(0x0A, LABEL, b"old");
     let raw = record(0x0A, RAW, b"old");
+    let with_key = |key: Block| Card { key, ..sound.clone() };
     let rows = [
         (Card { address: BROADCAST, ..sound.clone() }, true),
+        (with_key(WEAK[0]), true),
+        (with_key(WEAK[1]), true),
+        (with_key(WEAK[2]), true),
+        (with_key(WEAK[3]), true),
+        (with_key([0; 8]), true),
+        (with_key(keys::turned(WEAK[0], 1)), false),
+        (with_key(SEMI_WEAK[0][0]), false),
         (Card { records: vec![label.clone(), label.clone()], ..sound.clone() }, true),
         (with_record(Record { kind: 2, ..label.clone() }), true),
         (with_record(Record { octet_limit: Octets(117), ..label.clone() }), true),

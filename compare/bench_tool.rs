@@ -3,6 +3,8 @@
 use crate::bench::{ADDRESS, FOREIGN, KEY, NA1, NA2};
 use crate::des;
 use crate::frame::{self, Address, Body, Command, Frame, Number, BROADCAST};
+use crate::hex;
+use crate::keys::{self, SEMI_WEAK, WEAK};
 use crate::random_frames;
 use crate::receiver::Receiver;
 use crate::report::{same, Case, Disagreement};
@@ -66,7 +68,7 @@ pub fn wake_ups() -> Result<usize, Disagreement> {
     Ok(bench.requests)
 }
 
-/// The tool's order of tests: 17, 16, 6, 7 (12 stands below).
+/// The tool's order of tests: 17, 16, 6, 21, 7 (12 stands below).
 pub fn refusals() -> Result<usize, Disagreement> {
     let (mut tool, mut buffer) = (Tool::fresh(), [0; 128]);
     let program = |count, key: &[u8]| Request::Program {
@@ -76,17 +78,27 @@ pub fn refusals() -> Result<usize, Disagreement> {
         na1: NA1.to_vec(),
     };
     let broadcast = |count| Request::Broadcast { tab: 0, data: vec![0; count] };
-    let rows: [(&[u8], Request, usize, Result<bool, Number>); 10] = [
+    let parity_turned = keys::with_parity(WEAK[1], 0x08);
+    let rows: [(&[u8], Request, usize, Result<bool, Number>); 19] = [
         (&BROADCAST, program(101, &KEY), 127, Err(17)),
         (&BROADCAST[1..], program(101, &KEY), 128, Err(17)),
         (&BROADCAST, program(101, &KEY[1..]), 128, Err(17)),
+        (&BROADCAST, program(101, &WEAK[0]), 127, Err(17)),
+        (&BROADCAST, program(101, &WEAK[0][1..]), 128, Err(17)),
+        (&BROADCAST, program(101, &WEAK[0]), 128, Err(6)),
+        (&ADDRESS, program(101, &WEAK[0]), 128, Err(21)),
+        (&ADDRESS, program(0, &WEAK[1]), 128, Err(21)),
+        (&ADDRESS, program(0, &WEAK[2]), 128, Err(21)),
+        (&ADDRESS, program(0, &WEAK[3]), 128, Err(21)),
+        (&ADDRESS, program(100, &parity_turned), 128, Err(21)),
+        (&ADDRESS, program(101, &SEMI_WEAK[0][0]), 128, Err(7)),
         (&BROADCAST, program(101, &KEY), 128, Err(6)),
         (&ADDRESS, program(101, &KEY), 128, Err(7)),
         (&ADDRESS, broadcast(117), 128, Err(6)),
         (&BROADCAST, broadcast(117), 128, Err(7)),
         (&BROADCAST, Request::Initialise, 128, Ok(true)),
-        (&ADDRESS, program(100, &KEY), 128, Ok(true)),
-        (&BROADCAST, program(101, &KEY), 128, Err(16)),
+        (&ADDRESS, program(100, &keys::turned(WEAK[0], 1)), 128, Ok(true)),
+        (&BROADCAST, program(101, &WEAK[0]), 128, Err(16)),
     ];
     for (row, (ads, request, room, expected)) in rows.iter().enumerate() {
         let begun = tool.request(ads, 1, request, &mut buffer[..*room]);
@@ -95,23 +107,27 @@ pub fn refusals() -> Result<usize, Disagreement> {
     Ok(rows.len())
 }
 
-/// A tool that holds a length over its limit or a partly received frame that cannot be is refused with 12.
+/// A tool that holds a length over its limit or a partly received frame that cannot be is refused with 12,
+/// before 6 and 21; one that runs under a weak key is not.
 pub fn soundness() -> Result<usize, Disagreement> {
-    let running = |count: usize| {
-        let after = After::Rec { tab: 0, data: vec![0; count], key: KEY, na1: NA1 };
+    let running = |count: usize, key: [u8; 8]| {
+        let after = After::Rec { tab: 0, data: vec![0; count], key, na1: NA1 };
         Tool { running: Some(Running { ads: ADDRESS, adp: 1, after }), ..Tool::fresh() }
     };
     let holding = |octets: &[u8]| Tool { receiver: Receiver::Partial(octets.to_vec()), ..Tool::fresh() };
     let rows = [
-        (running(100), false),
-        (running(101), true),
+        (running(100, KEY), false),
+        (running(101, KEY), true),
+        (running(100, WEAK[0]), false),
         (holding(&[10]), true),
         (holding(&[11; 10]), false),
         (holding(&[11; 11]), true),
     ];
+    let (key, na1) = (WEAK[0].to_vec(), NA1.to_vec());
+    let program = Request::Program { tab: 0, data: vec![0; 101], key, na1 };
     for (row, (tool, refused)) in rows.iter().enumerate() {
         let mut after = tool.clone();
-        let requested = after.request(&BROADCAST, 1, &Request::Initialise, &mut [0; 128]) == Err(12);
+        let requested = after.request(&BROADCAST, 1, &program, &mut [0; 128]) == Err(12);
         let outcomes = [after.octet(0, &mut [0; 128]), after.gap(), after.session_end()];
         let all_refused = requested && outcomes.iter().all(|outcome| *outcome == Outcome::Refused(12));
         let short_buffer = after.octet(0, &mut [0; 127]);
@@ -154,6 +170,21 @@ fn hear(tool: &mut Tool, ads: Address, adp: u8, body: Body) -> (Outcome, Option<
 
 fn echo(key: [u8; 8], tab: u8, data: &[u8]) -> Body {
     Body::Ech { na1k: des::encipher(key, NA1), na2: NA2, tab, data: data.to_vec() }
+}
+
+/// A programming request that runs under a weak key, as no call begins it, goes on with that key to its end.
+pub fn running_under_a_weak_key() -> Result<usize, Disagreement> {
+    for key in WEAK {
+        let input = || format!("running under {}", hex::text(&key));
+        let after = After::Rec { tab: 0x0A, data: DATA.to_vec(), key, na1: NA1 };
+        let mut tool = waiting_tool(Command::Rec);
+        tool.running = Some(Running { ads: ADDRESS, adp: 1, after });
+        let aut = Frame { ads: ADDRESS, adp: 1, body: Body::Aut { na2k: des::encipher(key, NA2) } };
+        let echoed = hear(&mut tool, ADDRESS, 1, echo(key, 0x0A, DATA));
+        same(echoed, (Outcome::Authenticate(27), Some(aut)), input)?;
+        same(hear(&mut tool, ADDRESS, 1, Body::Eos), (Outcome::Done(None), None), input)?;
+    }
+    Ok(2 * WEAK.len())
 }
 
 /// The replies that mean something after one of the four frames; any other good frame is 19.

@@ -1,7 +1,8 @@
-//! The secondary station: 01, The card and Numbers handed back.
+//! The secondary station: 01, The card and Numbers handed back; 02, E5.
 
 use crate::des;
 use crate::frame::{Address, Block, Body, Frame, Number, BROADCAST, LONGEST};
+use crate::keys;
 use crate::receiver::{Heard, Receiver};
 use crate::record::{self, Record};
 
@@ -42,7 +43,8 @@ impl Answer {
 type Taken = (Option<Number>, Option<Body>);
 
 impl Card {
-    /// 01, The card: 17, 6, 12 over all records, then each content in turn (7, 8, 9).
+    /// 01, The card, and 02, E5: 17, 6, 12 over all records, 21 for a weak key, then each content in turn
+    /// (7, 8, 9).
     pub fn setup(address: &[u8], key: &[u8], records: &[Record]) -> Result<Card, Number> {
         let address = Address::try_from(address).map_err(|_| 17)?;
         let key = Block::try_from(key).map_err(|_| 17)?;
@@ -52,16 +54,20 @@ impl Card {
         if !record::keep_setup_rules(records) {
             return Err(12);
         }
+        if keys::weak(key) {
+            return Err(21);
+        }
         for record in records {
             record.accepts(&record.data)?;
         }
         Ok(Card { address, key, records: records.to_vec(), wait: None, receiver: Receiver::Empty })
     }
 
-    /// 01, The card (12): setup rules, contents included, lengths within
+    /// 01, The card (12): setup rules, E5's and contents included, lengths within
     /// their limits, a partly received frame that can be.
     pub fn sound(&self) -> bool {
         self.address != BROADCAST
+            && !keys::weak(self.key)
             && record::keep_setup_rules(&self.records)
             && self.records.iter().all(|record| record.accepts(&record.data).is_ok())
             && self.wait.as_ref().map_or(true, |wait| wait.data.len() <= 100)

@@ -107,6 +107,7 @@ pub struct Tally {
     accepted_setups: usize,
     refused_12: usize,
     refused_17: usize,
+    refused_21: usize,
     other_numbers: usize,
     replies: usize,
     pub damages: usize,
@@ -120,6 +121,7 @@ impl Tally {
             0 => self.accepted_setups += matches!(call, Call::Setup { .. }) as usize,
             12 => self.refused_12 += 1,
             17 => self.refused_17 += 1,
+            21 => self.refused_21 += 1,
             _ => self.other_numbers += 1,
         }
         self.replies += (matches!(call, Call::Octet { .. }) && (1..UNTOLD).contains(&outcome.length)) as usize;
@@ -130,8 +132,10 @@ impl Tally {
             "{} setups accepted, {} replies, {} writes granted, {} damages",
             self.accepted_setups, self.replies, self.grants, self.damages
         );
-        let refused = format!("12 {} times, 17 {} times", self.refused_12, self.refused_17);
-        format!("card memory, calls ({did}; {refused}, other numbers {} times)", self.other_numbers)
+        let first = format!("12 {} times, 17 {} times", self.refused_12, self.refused_17);
+        let refused =
+            format!("{first}, 21 {} times, other numbers {} times", self.refused_21, self.other_numbers);
+        format!("card memory, calls ({did}; {refused})")
     }
 }
 

@@ -3,7 +3,7 @@
 use crate::bench::{ADDRESS, KEY, NA1};
 use crate::card::Card;
 use crate::des;
-use crate::frame::{self, Block, Body, Frame};
+use crate::frame::{self, Block, Body, Frame, Number};
 use crate::hex;
 use crate::record::{Record, LABEL, RAW};
 use crate::utf8::{Characters, Octets};
@@ -13,6 +13,7 @@ const INDEX: u8 = 0x0B;
 /// The examples' numbers are a count, enciphered under this key.
 const SECRET: Block = [0x5A, 0x6F, 0xC3, 0xA9, 0x10, 0x32, 0x54, 0x76];
 const WRONG_KEY: Block = [0x0E, 0x32, 0x92, 0x32, 0xEA, 0x6D, 0x0D, 0x73];
+const WEAK_KEY: Block = [0x01; 8];
 
 struct Host {
     card: Card,
@@ -77,7 +78,7 @@ impl Host {
     }
 }
 
-fn set_up() -> Card {
+fn set_up(key: Block) -> Result<Card, Number> {
     let holder = Record {
         tab: HOLDER,
         kind: LABEL,
@@ -96,11 +97,13 @@ fn set_up() -> Card {
         data: b"000000000".to_vec(),
         ..holder.clone()
     };
-    Card::setup(&ADDRESS, &KEY, &[holder, index]).expect("an acceptable setup")
+    Card::setup(&ADDRESS, &key, &[holder, index])
 }
 
 pub fn printed() -> String {
-    let mut host = Host { card: set_up(), octets_heard: 0, text: "setup: 0\n".to_string() };
+    let refused = set_up(WEAK_KEY).expect_err("a weak key");
+    let text = format!("setup with the key {}: {refused}\nsetup: 0\n", hex::text(&WEAK_KEY));
+    let mut host = Host { card: set_up(KEY).expect("an acceptable setup"), octets_heard: 0, text };
     host.read_over_bus(HOLDER);
     host.program(" with a wrong key", HOLDER, "Zoé", WRONG_KEY);
     host.read_over_bus(HOLDER);

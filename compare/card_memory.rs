@@ -15,7 +15,7 @@ pub const ENTRIES: usize = 32 * ENTRY;
 pub const STORED: usize = 116;
 
 const ADDRESS: Range<usize> = 0..6;
-const KEY: Range<usize> = 6..14;
+pub const KEY: Range<usize> = 6..14;
 pub const WAIT_MARK: usize = 14;
 const WAIT_ADP: usize = 15;
 const WAIT_TAB: usize = 16;

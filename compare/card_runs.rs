@@ -1,13 +1,15 @@
 //! Runs of our exported calls over card memory: histories from a setup with memory damaged between some of the
-//! calls, setups with faults, and buffers of every length.
+//! calls, setups with faults, buffers of every length, and every key about E5's rule.
 
 use crate::book::{Book, Event};
 use crate::card_calls::{case, Call, Tally};
-use crate::card_memory::{self, COUNT, ENTRIES, MEMORY, RECORDS, STORED};
+use crate::card_memory::{self, COUNT, ENTRIES, KEY, MEMORY, RECORDS, STORED};
 use crate::encoding::Given;
-use crate::frame::{Body, Frame};
+use crate::frame::{Block, Body, Frame};
+use crate::keys;
 use crate::random_damage;
 use crate::random_history::{self, Setup};
+use crate::random_keys;
 use crate::random_setup;
 use crate::report::{same, tell, Case, Disagreement};
 use crate::rng::Rng;
@@ -72,6 +74,27 @@ fn damaged_run(rng: &mut Rng, tally: &mut Tally, memory: &[u8], setup: &Setup, n
     Ok(())
 }
 
+/// Each call on a copy of the memory that holds another key. A setup does not look at that key.
+fn other_key(rng: &mut Rng, tally: &mut Tally, memory: &[u8], octet: u8, given: &Given, key: Block) -> Case {
+    let mut memory = memory.to_vec();
+    memory[KEY].copy_from_slice(&key);
+    let tab = given.records.first().map_or(0, |record| record.tab);
+    let (number, reply) = (rng.pick(&[7, 8, 8, 8]), rng.pick(&[127, 128, 128, 128]));
+    let calls = [
+        Call::Octet { octet, number: rng.octets(number), reply: rng.octets(reply) },
+        Call::Gap,
+        Call::SessionEnd,
+        Call::MeterWrite { tab, data: vec![] },
+        Call::Read { tab, data: rng.octets(STORED) },
+        setup_call(rng, given),
+    ];
+    for call in &calls {
+        let room = if rng.once_in(20) { rng.below(MEMORY) } else { enough(rng) };
+        case(tally, &mut memory.clone(), room, call)?;
+    }
+    Ok(())
+}
+
 /// An accepted setup over memory that holds anything, and a history of calls. Each call in a memory too short is made again.
 /// After the history each record has the book's length and octets.
 fn history(rng: &mut Rng, tally: &mut Tally) -> Case {
@@ -89,6 +112,10 @@ fn history(rng: &mut Rng, tally: &mut Tally) -> Case {
         if rng.once_in(60) {
             let (call, room) = (read_call(rng, &setup), enough(rng));
             case(tally, &mut memory, room, &call)?;
+        }
+        if rng.once_in(100) {
+            let (octet, key) = (rng.octet(), random_keys::about(rng));
+            other_key(rng, tally, &memory, octet, &random_setup::given(&setup), key)?;
         }
         let call = call_of(rng, event);
         if rng.once_in(100) {
@@ -186,9 +213,25 @@ fn every_memory_length(rng: &mut Rng, tally: &mut Tally) -> Case {
     Ok(())
 }
 
+/// Every key about E5's rule: given to a setup alone and with faults beside, and standing in memory.
+fn every_key(rng: &mut Rng, tally: &mut Tally) -> Case {
+    let (memory, octet, given) = before_a_reply(rng, tally)?;
+    for (key, _) in keys::about_the_rule() {
+        let other = random_history::setup(rng);
+        let faulty = Given { key: key.to_vec(), ..random_setup::faulty(rng, &other) };
+        for given in [&Given { key: key.to_vec(), ..given.clone() }, &faulty] {
+            let setup = setup_call(rng, given);
+            case(tally, &mut memory.clone(), MEMORY, &setup)?;
+        }
+        other_key(rng, tally, &memory, octet, &given, key)?;
+    }
+    Ok(())
+}
+
 fn all(rng: &mut Rng, cases: usize, tally: &mut Tally) -> Case {
     every_buffer_length(rng, tally)?;
     every_memory_length(rng, tally)?;
+    every_key(rng, tally)?;
     let mut memory = rng.octets(MEMORY + PAST);
     let start = tally.calls;
     while tally.calls < start + cases {

@@ -39,6 +39,7 @@ fn words(number: Number) -> &'static str {
         17 => "wrong length lent",
         18 => "swap file faulty",
         19 => "unexpected frame",
+        21 => "weak key",
         _ => "rejected",
     }
 }

@@ -150,9 +150,14 @@ fn select<const COUNT: usize>(bits: &[u8], table: &[usize; COUNT]) -> [u8; COUNT
     table.map(|place| bits[place - 1])
 }
 
+/// FIPS 46-3, Appendix 1: C0 and then D0.
+pub fn key_halves(key: [u8; 8]) -> [u8; 56] {
+    select(&bits_of(key), &PC1)
+}
+
 /// FIPS 46-3, Appendix 1: K1 to K16.
-fn round_keys(key: [u8; 8]) -> [[u8; 48]; 16] {
-    let mut halves = select(&bits_of(key), &PC1);
+pub fn round_keys(key: [u8; 8]) -> [[u8; 48]; 16] {
+    let mut halves = key_halves(key);
     LEFT_SHIFTS.map(|shifts| {
         halves[..28].rotate_left(shifts);
         halves[28..].rotate_left(shifts);

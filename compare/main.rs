@@ -20,11 +20,13 @@ mod encoding;
 mod frame;
 mod hex;
 mod histories;
+mod keys;
 mod listing;
 mod number;
 mod programs;
 mod random_frames;
 mod random_history;
+mod random_keys;
 mod random_setup;
 mod random_text;
 mod receiver;
@@ -181,6 +183,7 @@ fn self_tests(rng: &mut Rng, cases: usize) -> bool {
     println!("the independent program alone, against published data and itself:");
     tell("crc", vectors::crc(rng))
         && tell("des", vectors::des())
+        && tell("weak keys", vectors::weak_keys(rng))
         && tell("utf8 beside Rust's library", vectors::utf8(rng))
         && tell("worked frames", vectors::frames())
         && tell("frame refusals", vectors::frame_refusals(rng))
@@ -193,11 +196,13 @@ fn self_tests(rng: &mut Rng, cases: usize) -> bool {
         && tell("swap file laws", bench::swap_laws(rng))
         && tell("receiving rows", bench::receiving())
         && tell("card setup rows", bench_card::setups())
+        && tell("card setup rows, keys", bench_card::setup_keys())
         && tell("card exchange rows", bench_card::exchanges())
         && tell("card soundness rows", bench_card::soundness())
         && tell("tool wake-up rows", bench_tool::wake_ups())
         && tell("tool refusal rows", bench_tool::refusals())
         && tell("tool soundness rows", bench_tool::soundness())
+        && tell("tool under a weak key", bench_tool::running_under_a_weak_key())
         && tell("tool replies", bench_tool::replies(rng))
         && tell_with("card and book, events", "writes granted", histories::card_and_book(rng, cases))
         && tell("taking out, frames", histories::taking_out(rng, cases.div_ceil(4)))
@@ -220,7 +225,9 @@ fn compare_frames(rng: &mut Rng, cases: usize) -> bool {
 #[cfg(part_tool)]
 fn compare_tool(rng: &mut Rng, cases: usize) -> bool {
     tell("tool, five reads and a sixth", tool_calls::five_reads())
-        && tell_with("tool, calls", "ended a request well", tool_calls::calls(rng, cases))
+        && tell("tool, every key about E5's rule", tool_calls::every_key(rng))
+        && tell("tool, exchanges under a weak key", tool_calls::under_a_weak_key(rng))
+        && tool_calls::compare_calls(rng, cases)
         && tell_with("tool, perfect wire", "ended well", tool_calls::on_the_wire(rng, cases.div_ceil(50), None))
         && tell_with("tool, lossy wire", "ended well", tool_calls::on_the_wire(rng, cases.div_ceil(50), Some(150)))
 }

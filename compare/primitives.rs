@@ -7,6 +7,7 @@ use crate::ffi::Lent;
 use crate::frame::Block;
 use crate::hex::{self, Hex};
 use crate::random_frames;
+use crate::random_keys;
 use crate::random_text;
 use crate::report::{same, Case, Disagreement};
 use crate::rng::Rng;
@@ -132,30 +133,16 @@ fn des_structured() -> Vec<(Block, Block)> {
     cases
 }
 
-/// The weak and some semi-weak keys of DES.
-const WEAK_KEYS: [u64; 8] = [
-    0x0101010101010101,
-    0xFEFEFEFEFEFEFEFE,
-    0xE0E0E0E0F1F1F1F1,
-    0x1F1F1F1F0E0E0E0E,
-    0x01FE01FE01FE01FE,
-    0x1FE01FE00EF10EF1,
-    0x01E001E001F101F1,
-    0xE0FEE0FEF1FEF1FE,
-];
-
-/// Random keys and blocks, those of one bit or one octet, weak keys, and weak keys with parity bits turned.
+/// Random keys and blocks, those of one bit or one octet, weak keys with any parity, and nearly weak ones.
+/// DES takes all of them.
 fn des_random(rng: &mut Rng) -> (Block, Block) {
     let (key, block): (Block, Block) = (rng.field(), rng.field());
     match rng.below(6) {
         0 => (one_bit(rng.below(64)), block),
         1 => (key, one_bit(rng.below(64))),
         2 => ([key[0]; 8], [block[0]; 8]),
-        3 => (rng.pick(&WEAK_KEYS).to_be_bytes(), block),
-        4 => {
-            let weak = rng.pick(&WEAK_KEYS).to_be_bytes();
-            (std::array::from_fn(|i| weak[i] ^ (key[i] & 1)), block)
-        }
+        3 => (random_keys::weak(rng), block),
+        4 => (random_keys::nearly_weak(rng), block),
         _ => (key, block),
     }
 }

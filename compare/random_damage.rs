@@ -1,6 +1,7 @@
 //! Random damage to card memory: any octet, the fields that 12 looks at, and octets that nothing reads.
 
 use crate::card_memory::*;
+use crate::random_keys;
 use crate::rng::Rng;
 
 /// Values about every bound of the layout.
@@ -22,7 +23,7 @@ fn any_record(rng: &mut Rng, memory: &[u8]) -> usize {
 
 /// Damages a memory that holds a sound card. What comes out may be sound or not.
 pub fn damage(rng: &mut Rng, memory: &mut [u8]) {
-    match rng.below(8) {
+    match rng.below(9) {
         0 => memory[rng.below(MEMORY)] = rng.octet(),
         1 | 2 => {
             let fields =
@@ -42,6 +43,7 @@ pub fn damage(rng: &mut Rng, memory: &mut [u8]) {
             let place = any_record(rng, memory) + 6 + rng.below(12);
             memory[place] = rng.octet();
         }
+        7 => memory[KEY].copy_from_slice(&random_keys::about(rng)),
         _ => {
             let width = rng.pick(&[5, 6, 14]);
             memory[..width].fill(0);

@@ -4,6 +4,7 @@ use crate::book::Event;
 use crate::des;
 use crate::frame::{Address, Block, Body, Frame, BROADCAST};
 use crate::random_frames;
+use crate::random_keys;
 use crate::random_text;
 use crate::record::{Record, LABEL, RAW};
 use crate::rng::Rng;
@@ -22,7 +23,7 @@ pub fn setup(rng: &mut Rng) -> Setup {
     let count = rng.pick(&[0, 1, 2, 3, 4, 8, 32]);
     let first_tab = rng.octet();
     let records = (0..count).map(|i| record(rng, first_tab.wrapping_add(i))).collect();
-    Setup { address, key: rng.field(), records }
+    Setup { address, key: random_keys::acceptable(rng), records }
 }
 
 fn limit(rng: &mut Rng) -> usize {

@@ -3,6 +3,7 @@
 use crate::encoding::Given;
 use crate::frame::BROADCAST;
 use crate::random_history::Setup;
+use crate::random_keys;
 use crate::random_text;
 use crate::record::{Record, LABEL, RAW};
 use crate::rng::Rng;
@@ -22,7 +23,7 @@ pub fn faulty(rng: &mut Rng, setup: &Setup) -> Given {
 }
 
 fn fault(rng: &mut Rng, given: &mut Given) {
-    match rng.below(12) {
+    match rng.below(15) {
         0 => {
             let length = rng.pick(&[0, 1, 5, 7, 255]);
             given.address = rng.octets(length);
@@ -36,13 +37,14 @@ fn fault(rng: &mut Rng, given: &mut Given) {
             let count = rng.pick(&[31, 32, 33, 34, 255]);
             set_count(given, count);
         }
+        4..=6 => given.key = random_keys::about(rng).to_vec(),
         _ if given.records.is_empty() => {}
-        4 => {
+        7 => {
             let tab = rng.pick(&given.records).tab;
             any(rng, given).tab = tab;
         }
-        5 => any(rng, given).kind = rng.pick(&[RAW, LABEL, 2, 3, 255]),
-        6 => limits(rng, given),
+        8 => any(rng, given).kind = rng.pick(&[RAW, LABEL, 2, 3, 255]),
+        9 => limits(rng, given),
         _ => contents(rng, given),
     }
 }

@@ -1,7 +1,8 @@
-//! The primary station: 01, The tool; the wake-up call also 001 2.4.8.
+//! The primary station: 01, The tool; 02, E5; the wake-up call also 001 2.4.8.
 
 use crate::des;
 use crate::frame::{Address, Block, Body, Frame, Number, BROADCAST, LONGEST};
+use crate::keys;
 use crate::receiver::{Heard, Receiver};
 
 /// 01, The tool: read, program, transfer, broadcast, initialise; key and number as lent, of any length.
@@ -132,7 +133,8 @@ impl Tool {
         Tool { receiver: Receiver::Empty, running: None, sent: vec![] }
     }
 
-    /// 01, The tool: 17, 12, 16, 6, 7; then the frame stands in the lent buffer.
+    /// 01, The tool, and 02, E5: 17, 12, 16, 6, 21 for a weak key to program with, 7; then the frame stands
+    /// in the lent buffer.
     pub fn request(
         &mut self,
         ads: &[u8],
@@ -154,6 +156,9 @@ impl Tool {
         if request.to_broadcast() != (ads == BROADCAST) {
             return Err(6);
         }
+        if matches!(&after, Some(After::Rec { key, .. }) if keys::weak(*key)) {
+            return Err(21);
+        }
         let length = Frame { ads, adp, body }.build(buffer)?;
         let wake_up = wake_up_due(&self.sent, request.sort(), ads);
         // Broadcast and initialise are done once sent: nothing is awaited.
@@ -162,7 +167,8 @@ impl Tool {
         Ok(Begun { wake_up, length })
     }
 
-    /// 01, The card (12), of a tool: no length over its limit, no partly received frame that cannot be.
+    /// 01, The card (12), of a tool: no length over its limit, no partly received frame that cannot be. E5
+    /// tests the key where a request is made, so one that runs goes on with the key it has.
     fn sound(&self) -> bool {
         let within_limit = match &self.running {
             Some(Running { after: After::Rec { data, .. }, .. }) => data.len() <= 100,

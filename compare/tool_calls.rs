@@ -5,11 +5,13 @@ use crate::bench::{ADDRESS, FOREIGN, KEY};
 use crate::des;
 use crate::ffi::Lent;
 use crate::ffi_tool::{self as ours, Cells};
-use crate::frame::{self, Address, Body, Frame, Number, BROADCAST};
+use crate::frame::{self, Address, Block, Body, Frame, Number, BROADCAST};
 use crate::hex;
+use crate::keys;
 use crate::random_frames;
+use crate::random_keys;
 use crate::receiver::Receiver;
-use crate::report::{same, Case, Disagreement};
+use crate::report::{same, tell, Case, Disagreement};
 use crate::rng::Rng;
 use crate::tool::{After, Begun, Outcome, Request, Running, Sort, Tool};
 use crate::wire::{self, Primary};
@@ -115,8 +117,26 @@ impl Pair {
         Pair { verdict: pair.holds("new", 0, &[0; SIZE]), ..pair }
     }
 
-    /// The memory holds the model's tool, and a refusal left what 01 says: at 6, 7, 12, 16 and 17 everything, at
-    /// any other number everything but the mark and the receiver.
+    /// The key of the programming request that runs, as both keep it until AUT is sent.
+    fn kept_key(&mut self) -> Option<&mut Block> {
+        match &mut self.model.running {
+            Some(Running { after: After::Rec { key, .. }, .. }) => Some(key),
+            _ => None,
+        }
+    }
+
+    /// Another key in the memory: the kept one of a request that runs, or octets that are free.
+    fn put_key(&mut self, key: Block) {
+        let mut octets = self.memory.octets().to_vec();
+        octets[at::KEY..at::NA1].copy_from_slice(&key);
+        self.memory = Lent::new(&octets);
+        if let Some(kept) = self.kept_key() {
+            *kept = key;
+        }
+    }
+
+    /// The memory holds the model's tool, and a refusal left what 01 says: at 6, 7, 12, 16, 17 and 21
+    /// everything, at any other number everything but the mark and the receiver.
     fn holds(&self, call: &str, number: Number, before: &[u8]) -> Case {
         let memory = self.memory.octets();
         let input = || format!("{call} on {}", hex::text(before));
@@ -127,7 +147,7 @@ impl Pair {
         }
         let kept = match number {
             0 => true,
-            6 | 7 | 12 | 16 | 17 => memory == before,
+            6 | 7 | 12 | 16 | 17 | 21 => memory == before,
             1..=5 => memory[..at::RECEIVER] == before[..at::RECEIVER],
             _ => memory[at::TAB..at::RECEIVER] == before[at::TAB..at::RECEIVER],
         };
@@ -235,6 +255,11 @@ fn lent(rng: &mut Rng, field: &[u8]) -> Vec<u8> {
     }
 }
 
+fn program(rng: &mut Rng, tab: u8, data: Vec<u8>, key: Block) -> Request {
+    let na1: Block = rng.field();
+    Request::Program { tab, data, key: lent(rng, &key), na1: lent(rng, &na1) }
+}
+
 fn request(rng: &mut Rng) -> (Vec<u8>, Request) {
     let tab = rng.octet();
     let count = rng.pick(&[0, 1, 4, 50, 99, 100, 101, 115, 116, 117, 200]);
@@ -242,7 +267,10 @@ fn request(rng: &mut Rng) -> (Vec<u8>, Request) {
     let request = match rng.below(9) {
         0..=3 => Request::Read { tab },
         4 => Request::Transfer { tab, data },
-        5 | 6 => Request::Program { tab, data, key: lent(rng, &KEY), na1: rng.octets(8) },
+        5 | 6 => {
+            let key = if rng.once_in(2) { random_keys::about(rng) } else { KEY };
+            program(rng, tab, data, key)
+        }
         7 => Request::Broadcast { tab, data },
         _ => Request::Initialise,
     };
@@ -299,8 +327,12 @@ fn reply(rng: &mut Rng, tool: &Tool) -> Vec<u8> {
 }
 
 /// A memory with some octets damaged is refused with 12 exactly where it is not sound, after 17; then nothing has changed.
-fn damaged(rng: &mut Rng, pair: &Pair) -> Case {
+/// The key that it keeps plays no part in this. The call is an event or the request.
+fn damaged(rng: &mut Rng, pair: &Pair, ads: &[u8], request: &Request) -> Case {
     let mut octets = pair.memory.octets().to_vec();
+    if rng.once_in(2) {
+        octets[at::KEY..at::NA1].copy_from_slice(&random_keys::about(rng));
+    }
     for _ in 0..1 + rng.below(3) {
         let anywhere = rng.below(SIZE);
         let receiver = [at::RECEIVER, at::RECEIVER + 1, at::RECEIVER + 2];
@@ -314,10 +346,10 @@ fn damaged(rng: &mut Rng, pair: &Pair) -> Case {
         1 => (ours::session_end(&mut memory), false),
         2 => (ours::octet(&mut memory, rng.octet(), &mut frame, &mut cells, &mut data), room < 128),
         _ => {
-            let (ads, request) = request(rng);
             let six = ads.len() == 6;
-            let eight = !matches!(&request, Request::Program { key, .. } if key.len() != 8);
-            let number = ours::request(&mut memory, &ads, 1, &request, &mut frame, &mut cells);
+            let eight =
+                !matches!(request, Request::Program { key, na1, .. } if key.len() != 8 || na1.len() != 8);
+            let number = ours::request(&mut memory, ads, 1, request, &mut frame, &mut cells);
             (number, room < 128 || !six || !eight)
         }
     };
@@ -333,50 +365,67 @@ fn damaged(rng: &mut Rng, pair: &Pair) -> Case {
     same(guarded && (refusal.is_none() || untouched), true, input)
 }
 
-/// Calls compared, and how many of them ended a request well.
-pub fn calls(rng: &mut Rng, cases: usize) -> Result<(usize, usize), Disagreement> {
-    let (mut calls, mut ended) = (0, 0);
-    while calls < cases {
+/// Calls compared, and what some of them came to, so that empty runs are seen.
+#[derive(Default)]
+struct Tally {
+    calls: usize,
+    ended_well: usize,
+    refused_21: usize,
+    /// ECH answered by AUT under a kept key that is weak.
+    went_on: usize,
+}
+
+fn calls(rng: &mut Rng, cases: usize, tally: &mut Tally) -> Case {
+    while tally.calls < cases {
         let mut pair = Pair::fresh();
         for _ in 0..60 {
-            calls += 1;
-            match rng.below(12) {
-                0..=3 => {
-                    let (ads, request) = request(rng);
-                    let adp = rng.below(3) as u8;
-                    let _ = pair.request(&ads, adp, &request, &mut buffer(rng));
-                }
-                4 => drop(pair.gap()),
-                5 if rng.once_in(3) => drop(pair.session_end()),
-                5 => drop(pair.octet(rng.octet(), &mut buffer(rng))),
-                6 => damaged(rng, &pair)?,
-                kind => {
-                    let octets = if kind == 7 && rng.once_in(2) {
-                        random_frames::damaged(rng, ADDRESS)
-                    } else {
-                        reply(rng, &pair.model)
-                    };
-                    let (fed, well) = feed(rng, &mut pair, &octets);
-                    calls += fed;
-                    ended += well;
-                }
-            }
+            tally.calls += 1;
+            one_call(rng, &mut pair, tally)?;
             pair.verdict()?;
         }
     }
-    Ok((calls, ended))
+    Ok(())
 }
 
-/// Hands over octets and perhaps a gap, which may cut them; an octet refused with 17 comes again. Gives the calls
-/// made, and how many of them ended a request well.
-fn feed(rng: &mut Rng, pair: &mut Pair, octets: &[u8]) -> (usize, usize) {
+fn one_call(rng: &mut Rng, pair: &mut Pair, tally: &mut Tally) -> Case {
+    match rng.below(13) {
+        0 | 1 if pair.kept_key().is_some() => pair.put_key(random_keys::about(rng)),
+        0..=3 => {
+            let (ads, request) = request(rng);
+            let adp = rng.below(3) as u8;
+            let begun = pair.request(&ads, adp, &request, &mut buffer(rng));
+            tally.refused_21 += (begun == Err(21)) as usize;
+        }
+        4 => drop(pair.gap()),
+        5 if rng.once_in(3) => drop(pair.session_end()),
+        5 => drop(pair.octet(rng.octet(), &mut buffer(rng))),
+        6 => {
+            let (ads, request) = request(rng);
+            damaged(rng, pair, &ads, &request)?;
+        }
+        7 => pair.put_key(random_keys::about(rng)),
+        8 if rng.once_in(2) => {
+            let octets = random_frames::damaged(rng, ADDRESS);
+            feed(rng, pair, &octets, tally);
+        }
+        _ => {
+            let octets = reply(rng, &pair.model);
+            feed(rng, pair, &octets, tally);
+        }
+    }
+    Ok(())
+}
+
+/// Hands over octets and perhaps a gap, which may cut them; an octet refused with 17 comes again.
+fn feed(rng: &mut Rng, pair: &mut Pair, octets: &[u8], tally: &mut Tally) {
     let cut = if rng.once_in(15) { rng.below(octets.len()) } else { octets.len() };
-    let (mut fed, mut ended) = (0, 0);
     for octet in &octets[..cut] {
         loop {
-            fed += 1;
+            tally.calls += 1;
+            let weak = pair.kept_key().is_some_and(|key| keys::weak(*key));
             let outcome = pair.octet(*octet, &mut buffer(rng));
-            ended += matches!(outcome, Outcome::Done(_)) as usize;
+            tally.ended_well += matches!(outcome, Outcome::Done(_)) as usize;
+            tally.went_on += (weak && matches!(outcome, Outcome::Authenticate(_))) as usize;
             if outcome != Outcome::Refused(17) {
                 break;
             }
@@ -385,7 +434,62 @@ fn feed(rng: &mut Rng, pair: &mut Pair, octets: &[u8]) -> (usize, usize) {
     if cut < octets.len() || rng.once_in(2) {
         pair.gap();
     }
-    (fed, ended)
+}
+
+/// At least so many random calls.
+pub fn compare_calls(rng: &mut Rng, cases: usize) -> bool {
+    let mut tally = Tally::default();
+    let agrees = calls(rng, cases, &mut tally).map(|()| tally.calls);
+    let refused = format!("21 {} times, {} went on under a weak key", tally.refused_21, tally.went_on);
+    tell(&format!("tool, calls ({} ended a request well; {refused})", tally.ended_well), agrees)
+}
+
+/// Every key about E5's rule in a programming request: alone, then with other faults beside or none, to a
+/// tool that is idle or busy, and over damaged memory.
+pub fn every_key(rng: &mut Rng) -> Result<usize, Disagreement> {
+    let about = keys::about_the_rule();
+    for (key, weak) in &about {
+        let alone = Request::Program { tab: 10, data: vec![], key: key.to_vec(), na1: rng.octets(8) };
+        let mut pair = Pair::fresh();
+        let begun = pair.request(&ADDRESS, 1, &alone, &mut [0; 128]);
+        pair.verdict()?;
+        same(begun.err(), weak.then_some(21), || hex::text(key))?;
+        key_with_faults(rng, *key)?;
+    }
+    Ok(3 * about.len())
+}
+
+fn key_with_faults(rng: &mut Rng, key: Block) -> Case {
+    let (mut pair, count) = (Pair::fresh(), rng.pick(&[0, 100, 101]));
+    let (data, ads) = (rng.octets(count), rng.pick(&[ADDRESS, ADDRESS, BROADCAST]));
+    let (request, ads) = (program(rng, 10, data, key), lent(rng, &ads));
+    damaged(rng, &pair, &ads, &request)?;
+    if rng.once_in(3) {
+        let _ = pair.request(&ADDRESS, 1, &Request::Read { tab: 10 }, &mut buffer(rng));
+    }
+    let _ = pair.request(&ads, 1, &request, &mut buffer(rng));
+    pair.verdict()
+}
+
+/// A programming request goes on to its end under a weak key that stands in the memory in place of its own.
+pub fn under_a_weak_key(rng: &mut Rng) -> Result<usize, Disagreement> {
+    let exchanges = 64;
+    for _ in 0..exchanges {
+        let (mut pair, mut last, mut buffer) = (Pair::fresh(), Outcome::Nothing, [0; 128]);
+        let (key, na1, data) = (random_keys::weak(rng), rng.field(), b"data".to_vec());
+        let ech = Body::Ech { na1k: des::encipher(key, na1), na2: rng.field(), tab: 10, data: data.clone() };
+        let program = Request::Program { tab: 10, data, key: KEY.to_vec(), na1: na1.to_vec() };
+        let begun = pair.request(&ADDRESS, 1, &program, &mut buffer);
+        same(begun.is_ok(), true, || hex::text(&key))?;
+        pair.put_key(key);
+        for body in [ech, Body::Eos] {
+            let octets = Frame { ads: ADDRESS, adp: 1, body }.octets().expect("DATA within its limit");
+            octets.iter().for_each(|octet| last = pair.octet(*octet, &mut buffer));
+        }
+        pair.verdict()?;
+        same(last, Outcome::Done(None), || hex::text(&key))?;
+    }
+    Ok(exchanges)
 }
 
 /// 01's row: five good reads of one station have one wake-up, and the sixth has a second.

@@ -3,7 +3,7 @@
 use crate::bench::{ADDRESS, KEY};
 use crate::card::Card;
 use crate::card_host::fresh_number;
-use crate::frame::Number;
+use crate::frame::{Block, Number};
 use crate::hex;
 use crate::record::{Record, LABEL, RAW};
 use crate::swap::{self, Fault, Written};
@@ -13,6 +13,8 @@ use crate::utf8::{self, Characters, Fit, Octets};
 const HOLDER: u8 = 0x0A;
 const INDEX: u8 = 0x0B;
 const UNKNOWN: u8 = 0x0C;
+/// One of E5's keys, FE eight times, with a parity bit turned.
+const WEAK_KEY: Block = [0xFE, 0xFE, 0xFE, 0xFF, 0xFE, 0xFE, 0xFE, 0xFE];
 const OLD_LIMITS: (Octets, Characters) = (Octets(40), Characters(40));
 const NEW_LIMITS: (Octets, Characters) = (Octets(14), Characters(20));
 
@@ -125,7 +127,13 @@ impl Host {
 
     fn play(&mut self, request: &Request) -> Ending {
         let mut buffer = [0; 128];
-        let begun = self.tool.request(&ADDRESS, 1, request, &mut buffer).expect("an acceptable request");
+        let begun = match self.tool.request(&ADDRESS, 1, request, &mut buffer) {
+            Ok(begun) => begun,
+            Err(number) => {
+                self.say(&format!("  refused {number}"));
+                return Err(number);
+            }
+        };
         if begun.wake_up {
             self.say("  wake-up call");
         }
@@ -157,10 +165,16 @@ impl Host {
         self.play(&Request::Read { tab })
     }
 
-    fn program_once(&mut self, tab: u8, data: &[u8]) -> Ending {
+    fn program_once(&mut self, tab: u8, data: &[u8], key: Block) -> Ending {
         self.say(&format!("programming TAB {tab:02X} with {} octets", data.len()));
         let na1 = fresh_number(&mut self.drawn).to_vec();
-        self.play(&Request::Program { tab, data: data.to_vec(), key: KEY.to_vec(), na1 })
+        self.play(&Request::Program { tab, data: data.to_vec(), key: key.to_vec(), na1 })
+    }
+
+    fn try_weak_key(&mut self) {
+        self.say(&format!("the key on the list: {}", hex::text(&WEAK_KEY)));
+        self.program_once(HOLDER, "Zoé".as_bytes(), WEAK_KEY).expect_err("a weak key");
+        self.say(&format!("the key on the card: {}", hex::text(&KEY)));
     }
 
     fn collect(&mut self, list: &mut Vec<swap::Record>, tab: u8, kind: u8) {
@@ -189,7 +203,7 @@ impl Host {
             };
             data.truncate(kept);
         }
-        let programmed = self.ask(|host| host.program_once(record.tab, &data));
+        let programmed = self.ask(|host| host.program_once(record.tab, &data, KEY));
         let word = if programmed.is_ok() { "on" } else { "NOT on" };
         self.say(&format!("  TAB {:02X} is {word} the new card", record.tab));
     }
@@ -221,6 +235,7 @@ pub fn printed() -> String {
 
     host.card = card(NEW_LIMITS, "", "");
     host.say("the new card: setup 0");
+    host.try_weak_key();
     for record in swap::read(file).expect("a good swap file") {
         host.program(&record);
     }

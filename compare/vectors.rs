@@ -1,13 +1,15 @@
-//! Self-tests on published data: the check key, DES, UTF-8 beside
+//! Self-tests on published data: the check key, DES and its weak keys, UTF-8 beside
 //! Rust's own, and the frames worked out in docs/.
 
 use crate::crc;
 use crate::des;
 use crate::frame::{self, Body, Frame, Number, BROADCAST};
 use crate::hex::{self, Hex};
+use crate::keys;
 use crate::random_frames;
+use crate::random_keys;
 use crate::random_text;
-use crate::report::{same, Disagreement};
+use crate::report::{same, Case, Disagreement};
 use crate::rng::Rng;
 use crate::utf8::{self, Characters, Octets};
 
@@ -65,6 +67,42 @@ fn rivest() -> Result<(), Disagreement> {
         value = if step % 2 == 0 { des::encipher(value, value) } else { des::decipher(value, value) };
     }
     same(Hex(&value), Hex(&hex::octets("1B1A2DDB4C642438")), || "9474B8E8C73BCA7D".into())
+}
+
+/// Whether a key is weak, by our test and by its sixteen round keys.
+fn weak_or_not(key: [u8; 8], expected: bool) -> Case {
+    let round_keys = des::round_keys(key);
+    let all_equal = round_keys.iter().all(|round_key| *round_key == round_keys[0]);
+    same((keys::weak(key), all_equal), (expected, expected), || format!("key {}", hex::text(&key)))
+}
+
+/// A block enciphered under one key and then under another comes back.
+fn undone(rng: &mut Rng, key: [u8; 8], other: [u8; 8]) -> Case {
+    let block = rng.field();
+    let twice = des::encipher(other, des::encipher(key, block));
+    same(Hex(&twice), Hex(&block), || format!("keys {} and {}", hex::text(&key), hex::text(&other)))
+}
+
+/// 02, E5: the four keys are weak, with every parity, and none is that is nearly so. Of all keys of two
+/// octets, four times each, these alone are weak.
+pub fn weak_keys(rng: &mut Rng) -> Result<usize, Disagreement> {
+    let about = keys::about_the_rule();
+    for (key, weak) in &about {
+        weak_or_not(*key, *weak)?;
+    }
+    for [key, other] in keys::WEAK.map(|key| [key, key]).into_iter().chain(keys::SEMI_WEAK) {
+        undone(rng, key, other)?;
+    }
+    for _ in 0..5_000 {
+        weak_or_not(random_keys::nearly_weak(rng), false)?;
+        weak_or_not(rng.field(), false)?;
+    }
+    for (front, back) in (0..=255).flat_map(|front| (0..=255).map(move |back| (front, back))) {
+        let key = [front, front, front, front, back, back, back, back];
+        let named = keys::WEAK.iter().any(|weak| [front | 1, back | 1] == [weak[0] | 1, weak[7] | 1]);
+        weak_or_not(key, named)?;
+    }
+    Ok(about.len() + 10 + 2 * 5_000 + 256 * 256)
 }
 
 /// Our reading of RFC 3629's table beside the one in Rust's library.

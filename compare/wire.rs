@@ -7,6 +7,7 @@ use crate::des;
 use crate::frame::{Address, Frame, Number, BROADCAST};
 use crate::hex::{self, Hex};
 use crate::random_history::{self, Setup};
+use crate::random_keys;
 use crate::receiver::{Heard, Receiver};
 use crate::record::Record;
 use crate::report::{same, Case, Disagreement};
@@ -243,8 +244,8 @@ fn random_request(rng: &mut Rng, setup: &Setup) -> (Address, Request) {
     match rng.below(8) {
         0..=2 => (ads, Request::Read { tab }),
         3 | 4 => {
-            let key = if rng.once_in(8) { rng.octets(8) } else { setup.key.to_vec() };
-            (ads, Request::Program { tab, data, key, na1: rng.octets(8) })
+            let key = if rng.once_in(8) { random_keys::acceptable(rng) } else { setup.key };
+            (ads, Request::Program { tab, data, key: key.to_vec(), na1: rng.octets(8) })
         }
         5 => (ads, Request::Transfer { tab, data }),
         6 => (BROADCAST, Request::Broadcast { tab, data }),

@@ -1,5 +1,6 @@
-/* A meter board with a card in it, and a fitter's tool at the other end of the wire, in one program: a reading, programming with a wrong and a
- * right authentication, meter writes. It prints each frame that the tool sends, what the card answers, and the number that the board gets.
+/* A meter board with a card in it, and a fitter's tool at the other end of the wire, in one program: a setup that is refused for its weak key,
+ * one that is not, a reading, programming with a wrong and a right authentication, meter writes. It prints each frame that the tool sends, what
+ * the card answers, and the number that the board gets.
  *
  *   rt staticlib card_exports && rt staticlib frame_exports && rt staticlib primitive_exports
  *   cc -Iinclude examples/card_host.c -Ltarget/staticlib -lcard_exports -lframe_exports -lprimitive_exports -o target/card_host
@@ -19,6 +20,8 @@ enum { HOLDER = 0x0A, INDEX = 0x0B };
 
 static const uint8_t address[6] = {0x11, 0x22, 0x33, 0x44, 0x55, 0x66};
 static const uint8_t key[8] = {0x13, 0x34, 0x57, 0x79, 0x9B, 0xBC, 0xDF, 0xF1};
+/* One of DES's four weak keys: a block enciphered twice under it is as it was before. The card takes none of them. */
+static const uint8_t weak_key[8] = {0x01, 0x01, 0x01, 0x01, 0x01, 0x01, 0x01, 0x01};
 static const uint8_t na1[8] = {0x01, 0x23, 0x45, 0x67, 0x89, 0xAB, 0xCD, 0xEF};
 static const uint8_t none[8] = {0};
 
@@ -113,12 +116,12 @@ static void put_entry(uint8_t *entry, uint8_t tab, uint8_t kind, uint8_t octets,
     memcpy(entry + sizeof head, contents, strlen(contents));
 }
 
-static uint8_t set_up(void)
+static uint8_t set_up(const uint8_t cards_key[8])
 {
     static uint8_t entries[PROPOLISK_CARD_ENTRIES];
     put_entry(entries, HOLDER, PROPOLISK_CARD_LABEL, 10, 3, PROPOLISK_CARD_READABLE | PROPOLISK_CARD_PROGRAMMING, "old");
     put_entry(entries + PROPOLISK_CARD_ENTRY, INDEX, PROPOLISK_CARD_RAW, 9, 0, PROPOLISK_CARD_READABLE, "000000000");
-    return propolisk_card_setup(memory, PROPOLISK_CARD_MEMORY, address, sizeof address, key, sizeof key, 2, entries);
+    return propolisk_card_setup(memory, PROPOLISK_CARD_MEMORY, address, sizeof address, cards_key, 8, 2, entries);
 }
 
 int main(void)
@@ -129,7 +132,10 @@ int main(void)
     if (memory == NULL || reply == NULL)
         return 1;
 
-    printf("setup: %u\n", set_up());
+    printf("setup with the key ");
+    print_octets(weak_key, sizeof weak_key);
+    printf(": %u\n", set_up(weak_key));
+    printf("setup: %u\n", set_up(key));
     read_over_bus(HOLDER);
     printf("programming TAB %02X with a wrong key\n", HOLDER);
     program(HOLDER, "Zo\xC3\xA9", wrong_key);

@@ -1,6 +1,7 @@
 /* A fitter's program: the hand tool reads the records of an old card, keeps them in a swap file, and programs a new card from the file. The two
  * cards stand at the other end of the wire, in the same program. The wire bends a bit of one reply and loses another; a request that nobody
- * answered is made again, and every record arrives. It prints each frame, and the number that each request ends with.
+ * answered is made again, and every record arrives. A weak key is refused before anything is sent. It prints each frame, and the number that
+ * each request ends with.
  *
  *   for archive in tool_exports swap_exports card_exports primitive_exports; do rt staticlib $archive; done
  *   cc -Iinclude examples/tool_host.c -Ltarget/staticlib -ltool_exports -lswap_exports -lcard_exports -lprimitive_exports -o target/tool_host
@@ -30,6 +31,8 @@ enum { BENT_REPLY = 1, LOST_REPLY = 6 };
 
 static const uint8_t address[6] = {0x11, 0x22, 0x33, 0x44, 0x55, 0x66};
 static const uint8_t key[8] = {0x13, 0x34, 0x57, 0x79, 0x9B, 0xBC, 0xDF, 0xF1};
+/* FE eight times is one of DES's four weak keys, and is weak whatever its parity bits; here one of them is turned. */
+static const uint8_t weak_key[8] = {0xFE, 0xFE, 0xFE, 0xFF, 0xFE, 0xFE, 0xFE, 0xFE};
 
 /* What is lent to the calls, from the heap, so that a memory checker sees an access beside it. */
 static uint8_t *tool, *card, *frame, *reply, *data, *heads, *contents, *file;
@@ -159,14 +162,14 @@ static uint8_t read_once(uint8_t tab)
     return begin(number, count, wake);
 }
 
-static uint8_t program_once(uint8_t tab, const uint8_t *octets, size_t octets_count)
+static uint8_t program_once(uint8_t tab, const uint8_t *octets, size_t octets_count, const uint8_t cards_key[8])
 {
     uint8_t na1[8], wake = 0, ended = 0;
     size_t count = 0;
     printf("programming TAB %02X with %zu octets\n", tab, octets_count);
     fresh_number(na1);
-    uint8_t number = propolisk_tool_program(tool, address, sizeof address, ADP, tab, octets, octets_count, key, sizeof key, na1,
-                                            sizeof na1, frame, 128, &count, &wake, &ended);
+    uint8_t number = propolisk_tool_program(tool, address, sizeof address, ADP, tab, octets, octets_count, cards_key, 8, na1, sizeof na1,
+                                            frame, 128, &count, &wake, &ended);
     return begin(number, count, wake);
 }
 
@@ -182,10 +185,18 @@ static uint8_t read_record(uint8_t tab)
 /* A lost reply does not say whether the card has written; to write the same octets again does no harm. */
 static uint8_t program_record(uint8_t tab, const uint8_t *octets, size_t count)
 {
-    uint8_t number = program_once(tab, octets, count);
+    uint8_t number = program_once(tab, octets, count, key);
     for (int retry = 0; retry < MAX_RETRY && number == SESSION_ENDED; retry++)
-        number = program_once(tab, octets, count);
+        number = program_once(tab, octets, count, key);
     return number;
+}
+
+/* The office's list has a weak key for this card. The tool refuses it before anything is sent, and is free for the next request. */
+static void try_weak_key(void)
+{
+    print_octets("the key on the list: ", weak_key, sizeof weak_key);
+    program_once(HOLDER, (const uint8_t *)"Zo\xC3\xA9", 4, weak_key);
+    print_octets("the key on the card: ", key, sizeof key);
 }
 
 /* A record that was read goes into its place in the list, whatever the order of reading. */
@@ -286,6 +297,7 @@ int main(void)
     collect(UNKNOWN, RAW);
     write_file();
     set_up("the new card", HOLDER_OCTETS, HOLDER_CHARACTERS, "", "");
+    try_weak_key();
     program_from_file();
     display(HOLDER);
     display(INDEX);
