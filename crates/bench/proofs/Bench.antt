@@ -16,12 +16,13 @@ use Rattle.frame.specs.Layout.{layoutOf, wholeLength, within}
 use Rattle.frame.specs.Building.{Outcome}
 use Rattle.frame.proofs.RoundTrip.{built-beyond, built-reads-back}
 use Rattle.label.specs.Utf8.{table, begins, rowAt, sequenceLength, sequencesFrom, sequences, wellFormedOctets, wellFormed}
-use Rattle.label.specs.Character.{grouped, characters}
+use Rattle.label.specs.CodePoint.{codePoint}
+use Rattle.label.specs.Character.{isCombiningMark, joinedTo, grouped, characters}
 use Rattle.label.specs.Fitting.{judged, keep, keptCharacters, fitOf}
 use Rattle.number.specs.Groups.{encoded, groups, decoded, joined, bounded, none as noNumber, frontNumber}
 use Rattle.number.proofs.Forms.{front-form}
 use Rattle.swap.proofs.Verdicts.{verdict-none}
-use Rattle.bench.specs.Rows.{exactly, any, builds, fits, encodes, judges, Holds, Each, none, next, whole, kept, illFormedAt, twoLetters, rows}
+use Rattle.bench.specs.Rows.{exactly, any, builds, fits, encodes, judges, Holds, Each, none, next, whole, kept, illFormedAt, twoLetters, letterWithAccent, nameWithAccent, rows}
 
 -- frames
 module _ (command : Command) (count : ℕ) where
@@ -41,14 +42,14 @@ fits-at label octets characters answer e o c p q = rw (p, q) e
 fits-any : (label : List ℕ) (answer : Answer (Octets × Characters)) → ((o c : ℕ) → fitOf label (inOctets o) (inCharacters c) ≡ answer) → Holds (fits label any any answer)
 fits-any label answer e o c p q = e o c
 
--- an octet limit below the first character keeps nothing, whatever the character limit
-first-too-long : Holds (fits (0xE2 ∷ 0x82 ∷ 0xAC ∷ []) (exactly 2) any (kept 0 0))
-unfolding fitOf judged keptCharacters keep characters grouped wellFormed wellFormedOctets sequences sequencesFrom sequenceLength rowAt begins table flatten
-first-too-long o c p q = rw p (by-count c)
+-- and where it leaves the character limit open: none, and any other
+fits-within : (label : List ℕ) (octets : ℕ) (answer : Answer (Octets × Characters)) → fitOf label (inOctets octets) (inCharacters 0) ≡ answer → ((c : ℕ) → fitOf label (inOctets octets) (inCharacters (suc c)) ≡ answer)
+    → Holds (fits label (exactly octets) any answer)
+fits-within label octets answer at-none at-some o c p q = rw p (by-count c)
   where
-    by-count : (n : ℕ) → fitOf (0xE2 ∷ 0x82 ∷ 0xAC ∷ []) (inOctets 2) (inCharacters n) ≡ kept 0 0
-    by-count zero = refl
-    by-count (suc n) = refl
+    by-count : (n : ℕ) → fitOf label (inOctets octets) (inCharacters n) ≡ answer
+    by-count zero = at-none
+    by-count (suc n) = at-some n
 
 -- numbers: the form of n, and what is read of it
 encodes-own : (n : ℕ) (octets : List ℕ) → n < 2 ^ 32 → encoded n ≡ octets → Holds (encodes n octets)
@@ -59,7 +60,7 @@ uncounted : (front : List ℕ) → ((rest : List ℕ) → frontNumber (front ++ 
 uncounted front e rest h = sym (verdict-none (front ++ rest) h (e rest))
 
 pub bench : Each rows
-unfolding encoded groups decoded joined bounded frontNumber layoutOf within between fitOf judged keptCharacters keep characters grouped wellFormed wellFormedOctets sequences sequencesFrom sequenceLength rowAt begins table flatten
+unfolding encoded groups decoded joined bounded frontNumber layoutOf within between fitOf judged keptCharacters keep characters grouped joinedTo isCombiningMark codePoint wellFormed wellFormedOctets sequences sequencesFrom sequenceLength rowAt begins table flatten
 bench =
     next (within-builds Trf 116 refl)
     (next (beyond-refused Trf 117 refl)
@@ -69,10 +70,27 @@ bench =
     (next (fits-at twoLetters 4 1 (kept 2 1) refl)
     (next (fits-at twoLetters 1 9 (kept 0 0) refl)
     (next (fits-any [] (kept 0 0) (λ o c. refl))
-    (next first-too-long
+    (next (fits-within (0xE2 ∷ 0x82 ∷ 0xAC ∷ []) 2 (kept 0 0) refl (λ c. refl))
     (next (fits-any (0x41 ∷ 0xC3 ∷ []) (illFormedAt 1) (λ o c. refl))
     (next (fits-any (0xC0 ∷ 0x80 ∷ []) (illFormedAt 0) (λ o c. refl))
     (next (fits-any (0xED ∷ 0xA0 ∷ 0x80 ∷ []) (illFormedAt 0) (λ o c. refl))
     (next (fits-any (0xF4 ∷ 0x90 ∷ 0x80 ∷ 0x80 ∷ []) (illFormedAt 0) (λ o c. refl))
     (next (encodes-own 4096 (0x80 ∷ 0x20 ∷ []) (lit< tt) refl)
-    (next (uncounted (0x81 ∷ 0x00 ∷ []) (λ rest. refl)) none))))))))))))))
+    (next (uncounted (0x81 ∷ 0x00 ∷ []) (λ rest. refl))
+    (next (fits-within letterWithAccent 1 (kept 0 0) refl (λ c. refl))
+    (next (fits-within letterWithAccent 2 (kept 0 0) refl (λ c. refl))
+    (next (fits-at letterWithAccent 3 0 (kept 0 0) refl)
+    (next (fits-at letterWithAccent 3 1 (kept 3 1) refl)
+    (next (fits-at nameWithAccent 4 9 (kept 2 2) refl)
+    (next (fits-at nameWithAccent 5 2 (kept 2 2) refl)
+    (next (fits-at nameWithAccent 5 3 (kept 5 3) refl)
+    (next (fits-within (0x20 ∷ 0xCC ∷ 0x81 ∷ []) 2 (kept 0 0) refl (λ c. refl))
+    (next (fits-within (0xCC ∷ 0x81 ∷ 0xCD ∷ 0xAF ∷ []) 3 (kept 0 0) refl (λ c. refl))
+    (next (fits-at (0xCC ∷ 0x81 ∷ 0xCD ∷ 0xAF ∷ []) 4 1 (kept 4 1) refl)
+    (next (fits-at (0xCC ∷ 0x81 ∷ 0x65 ∷ []) 3 1 (kept 2 1) refl)
+    (next (fits-at (0x65 ∷ 0xCC ∷ 0x80 ∷ 0xCC ∷ 0xBF ∷ 0xCD ∷ 0x80 ∷ []) 7 1 (kept 7 1) refl)
+    (next (fits-at (0x65 ∷ 0xCB ∷ 0xBF ∷ []) 3 1 (kept 1 1) refl)
+    (next (fits-at (0x65 ∷ 0xCD ∷ 0xB0 ∷ []) 3 1 (kept 1 1) refl)
+    (next (fits-at (0x65 ∷ 0xE2 ∷ 0x83 ∷ 0x90 ∷ []) 4 1 (kept 1 1) refl)
+    (next (fits-any (0x65 ∷ 0xCC ∷ 0x81 ∷ 0xFF ∷ []) (illFormedAt 3) (λ o c. refl))
+    (next (fits-any (0x65 ∷ 0xCC ∷ 0xFF ∷ []) (illFormedAt 1) (λ o c. refl)) none)))))))))))))))))))))))))))))))

@@ -1,4 +1,4 @@
--- The rows of 01, Measured on the bench, that are marked P, in the paper's order. What a row leaves open, it holds for all of.
+-- The rows of 01, Measured on the bench, that are marked P, in the paper's order; then rows of our own for 02's requests. What a row leaves open, it holds for all of.
 use mathlib.Core.Path.{_≡_}
 use mathlib.Core.List.{List, [], _∷_, _++_}
 use Prim.Native.Nat.{ℕ, _≤_}
@@ -69,6 +69,14 @@ illFormedAt offset = refusedAt illFormed (inOctets offset)
 abbrev pub twoLetters : List ℕ
 twoLetters = 0xC3 ∷ 0x89 ∷ 0xC3 ∷ 0xA9 ∷ []
 
+-- e and U+0301 after it, as some suppliers send é
+abbrev pub letterWithAccent : List ℕ
+letterWithAccent = 0x65 ∷ 0xCC ∷ 0x81 ∷ []
+
+-- Z, o and these
+abbrev pub nameWithAccent : List ℕ
+nameWithAccent = 0x5A ∷ 0x6F ∷ letterWithAccent
+
 abbrev pub rows : List Row
 rows =
     builds Trf 116 (whole 128) ∷
@@ -85,4 +93,25 @@ rows =
     fits (0xED ∷ 0xA0 ∷ 0x80 ∷ []) any any (illFormedAt 0) ∷
     fits (0xF4 ∷ 0x90 ∷ 0x80 ∷ 0x80 ∷ []) any any (illFormedAt 0) ∷
     encodes 4096 (0x80 ∷ 0x20 ∷ []) ∷
-    judges (0x81 ∷ 0x00 ∷ []) (refusedAt faultyFile (inOctets 0)) ∷ []
+    judges (0x81 ∷ 0x00 ∷ []) (refusedAt faultyFile (inOctets 0)) ∷
+    -- 02, E1: a letter, or anything else, is kept with its marks or not at all
+    fits letterWithAccent (exactly 1) any (kept 0 0) ∷
+    fits letterWithAccent (exactly 2) any (kept 0 0) ∷
+    fits letterWithAccent (exactly 3) (exactly 0) (kept 0 0) ∷
+    fits letterWithAccent (exactly 3) (exactly 1) (kept 3 1) ∷
+    fits nameWithAccent (exactly 4) (exactly 9) (kept 2 2) ∷
+    fits nameWithAccent (exactly 5) (exactly 2) (kept 2 2) ∷
+    fits nameWithAccent (exactly 5) (exactly 3) (kept 5 3) ∷
+    fits (0x20 ∷ 0xCC ∷ 0x81 ∷ []) (exactly 2) any (kept 0 0) ∷
+    -- 02, E1: marks that start a label are one character, and all that follow a letter are one with it
+    fits (0xCC ∷ 0x81 ∷ 0xCD ∷ 0xAF ∷ []) (exactly 3) any (kept 0 0) ∷
+    fits (0xCC ∷ 0x81 ∷ 0xCD ∷ 0xAF ∷ []) (exactly 4) (exactly 1) (kept 4 1) ∷
+    fits (0xCC ∷ 0x81 ∷ 0x65 ∷ []) (exactly 3) (exactly 1) (kept 2 1) ∷
+    fits (0x65 ∷ 0xCC ∷ 0x80 ∷ 0xCC ∷ 0xBF ∷ 0xCD ∷ 0x80 ∷ []) (exactly 7) (exactly 1) (kept 7 1) ∷
+    -- 02, E1: U+02FF, U+0370 and U+20D0 are outside U+0300 to U+036F
+    fits (0x65 ∷ 0xCB ∷ 0xBF ∷ []) (exactly 3) (exactly 1) (kept 1 1) ∷
+    fits (0x65 ∷ 0xCD ∷ 0xB0 ∷ []) (exactly 3) (exactly 1) (kept 1 1) ∷
+    fits (0x65 ∷ 0xE2 ∷ 0x83 ∷ 0x90 ∷ []) (exactly 4) (exactly 1) (kept 1 1) ∷
+    -- 02, E1: where ill-formed text starts is as before
+    fits (0x65 ∷ 0xCC ∷ 0x81 ∷ 0xFF ∷ []) any any (illFormedAt 3) ∷
+    fits (0x65 ∷ 0xCC ∷ 0xFF ∷ []) any any (illFormedAt 1) ∷ []

@@ -1,32 +1,15 @@
 -- The longest front part of a run of characters within two limits.
-use mathlib.Core.Path.{_≡_, refl, ap}
+use mathlib.Core.Path.{_≡_, refl, sym, ap, _∙_}
 use mathlib.Core.Bool.{Bool, true, false, cond}
 use mathlib.Core.List.{List, [], _∷_, _++_, flatten}
 use Prim.Native.Nat.{ℕ, zero, suc, _+_, _-_, _≤_, _<_}
+use mathlib.Core.Logic.{_⊎_, ⊎-elim}
 use native.Mathlib.Omega.{arith}
-use borrow.Author.Tests.{le-leb, lt-leb, leb-true, leb-false}
+use borrow.Author.Tests.{leb-true, leb-false}
 use lib.Dec.{leb}
 use lib.ListN.{length, take, length-append}
+use lib.Seq.{take-all}
 use Rattle.label.specs.Fitting.{keep}
-
-pub keep-first : (octets count : ℕ) (character : List ℕ) (run : List (List ℕ)) → length character ≤ octets
-    → keep octets (suc count) (character ∷ run) ≡ character ∷ keep (octets - length character) count run
-unfolding keep
-keep-first octets count character run h = rw (le-leb _ _ h)
-
-pub keep-over : (octets count : ℕ) (character : List ℕ) (run : List (List ℕ)) → octets < length character → keep octets count (character ∷ run) ≡ []
-unfolding keep
-keep-over octets zero character run h = refl
-keep-over octets (suc count) character run h = rw (lt-leb _ _ h)
-
-pub keep-none : (octets : ℕ) (run : List (List ℕ)) → keep octets 0 run ≡ []
-unfolding keep
-keep-none octets [] = refl
-keep-none octets (character ∷ run) = refl
-
-pub keep-empty : (octets count : ℕ) → keep octets count [] ≡ []
-unfolding keep
-keep-empty octets count = refl
 
 module _ (octets count : ℕ) (character : List ℕ) (run : List (List ℕ)) where
   -- a claim about what is kept of a run: the first character is kept with what the limits then leave, or nothing is
@@ -83,3 +66,31 @@ keep-whole octets (suc count) (character ∷ run) h k =
     cases octets count character run (λ (kept : List (List ℕ)). kept ≡ character ∷ run)
     (λ fits. ap (λ (l : List (List ℕ)). character ∷ l) (keep-whole (octets - length character) count run (omega arith) (omega arith)))
     (λ over. absurd (omega arith))
+
+-- what is kept of a run is kept of each of its front parts that is long enough
+keep-of-front : (octets count : ℕ) (run : List (List ℕ)) (n : ℕ) → length (keep octets count run) ≤ n → keep octets count (take n run) ≡ keep octets count run
+unfolding keep
+keep-of-front octets count [] zero h = refl
+keep-of-front octets count [] (suc n) h = refl
+keep-of-front octets zero (character ∷ run) zero h = refl
+keep-of-front octets zero (character ∷ run) (suc n) h = refl
+keep-of-front octets (suc count) (character ∷ run) zero h = cases octets count character run (λ (kept : List (List ℕ)). length kept ≤ 0 → [] ≡ kept) (λ fits few. absurd (omega arith)) (λ over few. refl) h
+keep-of-front octets (suc count) (character ∷ run) (suc n) h = told (leb (length character) octets) h (keep-of-front (octets - length character) count run n)
+  where
+    told : (b : Bool) → length (cond b (character ∷ keep (octets - length character) count run) []) ≤ suc n
+        → (length (keep (octets - length character) count run) ≤ n → keep (octets - length character) count (take n run) ≡ keep (octets - length character) count run)
+        → cond b (character ∷ keep (octets - length character) count (take n run)) [] ≡ cond b (character ∷ keep (octets - length character) count run) []
+    told true h rest = ap (λ (l : List (List ℕ)). character ∷ l) (rest (omega arith))
+    told false h rest = refl
+
+-- of a run over a limit the last character is not kept
+pub keep-part : (octets count : ℕ) (run : List (List ℕ)) → (octets < length (flatten run)) ⊎ (count < length run) → keep octets count run ≡ keep octets count (take (length run - 1) run)
+keep-part octets count run over = sym (keep-of-front octets count run (length run - 1) (fewer (leb (length run) (length (keep octets count run))) refl))
+  where
+    fewer : (b : Bool) → leb (length run) (length (keep octets count run)) ≡ b → length (keep octets count run) ≤ length run - 1
+    fewer false e = let less : length (keep octets count run) < length run = leb-false _ _ e in omega arith
+    fewer true e =
+        let whole : keep octets count run ≡ run = keep-front octets count run ∙ take-all (length (keep octets count run)) run (leb-true _ _ e) in
+        let octets-fit : length (flatten run) ≤ octets = rw whole at (keep-octets octets count run) in
+        let count-fits : length run ≤ count = rw whole at (keep-count octets count run) in
+        absurd (⊎-elim (λ (h : octets < length (flatten run)). omega arith) (λ (h : count < length run). omega arith) over)

@@ -6,11 +6,11 @@ use Prim.Native.Nat.{ℕ, zero, suc, _+_, _-_, _≤_, _<_}
 use native.Mathlib.Omega.{arith}
 use borrow.Author.Tests.{eqb-true, eq-eqb, ne-eqb}
 use lib.ListN.{length, take, drop, length-append, length-take, length-drop, take-append-drop}
-use lib.Seq.{length-take-le, take-add, take-at, drop-at, take-length, take-nil}
+use lib.Seq.{length-take-le, take-add, take-at, drop-at, take-length, take-nil, drop-nil, drop-drop}
 use Rattle.label.specs.Utf8.{sequenceLength, sequencesFrom, sequences, wellFormedOctets, wellFormed}
 use Rattle.label.proofs.Sequence.{sequence-of-front, sequence-in-front, sequence-fits}
 
-flatten-append : (a b : List (List ℕ)) → flatten (a ++ b) ≡ flatten a ++ flatten b
+pub flatten-append : (a b : List (List ℕ)) → flatten (a ++ b) ≡ flatten a ++ flatten b
 unfolding flatten
 flatten-append [] b = refl
 flatten-append (x ∷ a) b = rw (flatten-append a b) (sym (append-assoc x (flatten a) (flatten b)))
@@ -71,12 +71,30 @@ run-is-front = by-sequences (λ (text : List ℕ). flatten (sequences text) ≡ 
     next text m e rest = rw (sequences-step text m e, octets-step text m e, take-add) (rw rest)
 
 -- a text that starts with another text's first sequence has the same first sequence
-first-again : (text rest : List ℕ) (m : ℕ) → sequenceLength text ≡ suc m → sequences (take (suc m) text ++ rest) ≡ take (suc m) text ∷ sequences rest
+pub first-again : (text rest : List ℕ) (m : ℕ) → sequenceLength text ≡ suc m → sequences (take (suc m) text ++ rest) ≡ take (suc m) text ∷ sequences rest
 first-again text rest m e =
     let whole : length (take (suc m) text) ≡ suc m = length-first text m e in
     let front : take (suc m) (take (suc m) text ++ rest) ≡ take (suc m) text = take-at (take (suc m) text) rest (suc m) whole in
     let first : sequenceLength (take (suc m) text ++ rest) ≡ suc m = sequence-of-front (suc m) (take (suc m) text ++ rest) m (rw front (sequence-in-front (suc m) text m e (omega arith))) in
     sequences-step (take (suc m) text ++ rest) m first ∙ rw (front, drop-at (take (suc m) text) rest (suc m) whole)
+
+-- the sequences of a well-formed text stand before those of what follows it
+pub sequences-append : (text rest : List ℕ) → wellFormedOctets text ≡ length text → sequences (text ++ rest) ≡ sequences text ++ sequences rest
+sequences-append text rest = by-sequences (λ (text : List ℕ). wellFormedOctets text ≡ length text → sequences (text ++ rest) ≡ sequences text ++ sequences rest) none next text
+  where
+    nothing : (text : List ℕ) → length text ≡ 0 → sequenceLength text ≡ 0 → sequences (text ++ rest) ≡ sequences text ++ sequences rest
+    nothing [] h e = rw (sequences-none [] e)
+    nothing (octet ∷ text) h e = absurd (omega arith)
+
+    none : (text : List ℕ) → sequenceLength text ≡ 0 → wellFormedOctets text ≡ length text → sequences (text ++ rest) ≡ sequences text ++ sequences rest
+    none text e w = nothing text (omega (arith, octets-none text e)) e
+
+    next : (text : List ℕ) (m : ℕ) → sequenceLength text ≡ suc m → (wellFormedOctets (drop (suc m) text) ≡ length (drop (suc m) text) → sequences (drop (suc m) text ++ rest) ≡ sequences (drop (suc m) text) ++ sequences rest)
+        → wellFormedOctets text ≡ length text → sequences (text ++ rest) ≡ sequences text ++ sequences rest
+    next text m e others w =
+        let behind : wellFormedOctets (drop (suc m) text) ≡ length (drop (suc m) text) = omega (arith, octets-step text m e, sequence-fits text, length-drop (suc m) text) in
+        let parts : text ++ rest ≡ take (suc m) text ++ (drop (suc m) text ++ rest) = ap (λ (l : List ℕ). l ++ rest) (sym (take-append-drop (suc m) text)) ∙ append-assoc (take (suc m) text) (drop (suc m) text) rest in
+        rw (parts, first-again text (drop (suc m) text ++ rest) m e, sequences-step text m e) (ap (λ (run : List (List ℕ)). take (suc m) text ∷ run) (others behind))
 
 -- the first sequences of a text, put together, split into the same sequences
 pub run-again : (text : List ℕ) (count : ℕ) → sequences (flatten (take count (sequences text))) ≡ take count (sequences text)
@@ -94,6 +112,20 @@ run-again = by-sequences (λ (text : List ℕ). (count : ℕ) → sequences (fla
         → (count : ℕ) → sequences (flatten (take count (sequences text))) ≡ take count (sequences text)
     next text m e rest zero = empty
     next text m e rest (suc count) = rw (sequences-step text m e) (first-again text _ m e ∙ rw (rest count))
+
+-- behind the first sequences of a text stand the others
+pub run-behind : (text : List ℕ) (count : ℕ) → sequences (drop (length (flatten (take count (sequences text)))) text) ≡ drop count (sequences text)
+unfolding flatten
+run-behind = by-sequences (λ (text : List ℕ). (count : ℕ) → sequences (drop (length (flatten (take count (sequences text)))) text) ≡ drop count (sequences text)) none next
+  where
+    none : (text : List ℕ) → sequenceLength text ≡ 0 → (count : ℕ) → sequences (drop (length (flatten (take count (sequences text)))) text) ≡ drop count (sequences text)
+    none text e count = rw (sequences-none text e, take-nil, drop-nil) (sequences-none text e)
+
+    next : (text : List ℕ) (m : ℕ) → sequenceLength text ≡ suc m
+        → ((count : ℕ) → sequences (drop (length (flatten (take count (sequences (drop (suc m) text))))) (drop (suc m) text)) ≡ drop count (sequences (drop (suc m) text)))
+        → (count : ℕ) → sequences (drop (length (flatten (take count (sequences text)))) text) ≡ drop count (sequences text)
+    next text m e rest zero = refl
+    next text m e rest (suc count) = rw (sequences-step text m e, length-append, length-first text m e, ← drop-drop) (rest count)
 
 -- the sequences of a front part are the first ones of the text
 abbrev FirstOnes : List ℕ → ℕ → Type 0

@@ -1,84 +1,144 @@
--- One turn of a loop over a label's sequences: what the part behind an offset adds to the octets, to the characters and to what is kept.
-use mathlib.Core.Path.{_≡_, refl, sym, _∙_}
-use mathlib.Core.List.{List, [], _∷_, flatten}
-use mathlib.Core.Logic.{_⊎_, ⊎-elim}
+-- One turn of a loop over a label's sequences: what it adds to the characters of the front part that is read, and to what is kept of it.
+use mathlib.Core.Path.{_≡_, refl, sym, ap, _∙_}
+use mathlib.Core.Bool.{Bool, true, false, not, false≢true}
+use mathlib.Core.List.{List, [], _∷_, _++_, append-nil, flatten}
+use mathlib.Core.Logic.{_⊎_, ⊎-elim, inl, inr}
 use Prim.Native.Nat.{ℕ, zero, suc, _+_, _-_, _≤_, _<_}
-use native.Mathlib.Nat.{sub-zero}
 use native.Mathlib.Omega.{arith}
-use lib.ListN.{length, take, drop, length-append, length-drop}
-use lib.Seq.{drop-drop, length-take-le}
-use Rattle.label.specs.Utf8.{sequenceLength, wellFormedOctets}
-use Rattle.label.specs.Character.{characters}
+use lib.ListN.{length, take, drop, length-append, length-drop, take-append-drop}
+use lib.Seq.{take-add, take-append-seam, length-take-le}
+use Rattle.label.specs.Utf8.{sequenceLength, sequences, wellFormedOctets}
+use Rattle.label.specs.Character.{isCombiningMark, combiningMarkAt, startsCharacter, grouped, characters}
 use Rattle.label.specs.Fitting.{keep}
 use Rattle.label.proofs.Sequence.{sequence-fits}
-use Rattle.label.proofs.Longest.{keep-first, keep-over, keep-none, keep-empty}
-use Rattle.label.proofs.Run.{octets-step, length-first}
-use Rattle.label.proofs.Whole.{characters-none, characters-step}
+use Rattle.label.proofs.Grouping.{LastGrown, grouped-first, grouped-more, grouped-mark}
+use Rattle.label.proofs.Longest.{keep-part, keep-whole}
+use Rattle.label.proofs.Run.{flatten-append, sequences-none, sequences-append, first-again}
+use Rattle.label.proofs.Whole.{characters-octets}
 
--- nothing is kept within no octets, since each character has one
-keep-no-octets : (text : List ℕ) (count : ℕ) → keep 0 count (characters text) ≡ []
-keep-no-octets text count = cases (sequenceLength text) refl
+-- the front part up to an offset is a run of whole sequences
+abbrev pub ReadTo : List ℕ → ℕ → Type 0
+ReadTo text at = (at ≤ length text) × (wellFormedOctets (take at text) ≡ at)
+
+sequences-empty : sequences [] ≡ []
+sequences-empty = sequences-none [] (omega (arith, sequence-fits []))
+
+pub read-none : (text : List ℕ) → ReadTo text 0
+unfolding wellFormedOctets flatten
+read-none text = (omega arith, rw sequences-empty)
+
+pub characters-empty : characters [] ≡ []
+unfolding characters grouped
+characters-empty = rw sequences-empty
+
+module _ (text : List ℕ) (at : ℕ) (read : ReadTo text at) where
+  read-length : length (take at text) ≡ at
+  read-length = length-take-le at text (read .0)
+
+  -- the characters of the front part have its octets
+  pub read-octets : length (flatten (characters (take at text))) ≡ at
+  unfolding wellFormedOctets
+  read-octets = ap length (characters-octets (take at text)) ∙ read .1
+
+  -- where no sequence follows, the well-formed front part ends
+  pub read-ended : sequenceLength (drop at text) ≡ 0 → wellFormedOctets text ≡ at
+  unfolding wellFormedOctets
+  read-ended e =
+      let whole : sequences text ≡ sequences (take at text) = ap sequences (sym (take-append-drop at text)) ∙ (sequences-append (take at text) (drop at text) (read .1 ∙ sym read-length) ∙ rw (sequences-none (drop at text) e) (append-nil (sequences (take at text)))) in
+      ap (λ (run : List (List ℕ)). length (flatten run)) whole ∙ read .1
+
+-- behind the whole text no sequence stands
+pub read-all : (text : List ℕ) (at : ℕ) → length text ≤ at → sequenceLength (drop at text) ≡ 0
+read-all text at h = omega (arith, sequence-fits (drop at text), length-drop at text)
+
+-- a run that has octets has sequences
+some-run : (run : List (List ℕ)) (n : ℕ) → length (flatten run) ≡ suc n → 0 < length run
+unfolding flatten
+some-run [] n e = absurd (omega arith)
+some-run (sequence ∷ run) n e = omega arith
+
+-- a character that something joins has begun
+pub some-begun : (text : List ℕ) (at : ℕ) (run : List (List ℕ)) → startsCharacter text at ≡ false → length (flatten run) ≡ at → 0 < length run
+unfolding startsCharacter
+some-begun text zero run joins octets = absurd (false≢true (sym joins))
+some-begun text (suc at) run joins octets = some-run run at octets
+
+-- whether a sequence at an offset, behind a run, starts a character
+run-starts : (text : List ℕ) (at : ℕ) (run : List (List ℕ)) (sequence : List ℕ) → (at ≡ 0 → run ≡ []) → isCombiningMark sequence ≡ combiningMarkAt (drop at text)
+    → startsCharacter text at ≡ true → grouped (run ++ sequence ∷ []) ≡ grouped run ++ sequence ∷ []
+unfolding startsCharacter grouped
+run-starts text zero run sequence none here starts = rw (none refl) (grouped-first sequence)
+run-starts text (suc at) run sequence none here starts = grouped-more run sequence (here ∙ not-true (combiningMarkAt (drop (suc at) text)) starts)
   where
-    cases : (n : ℕ) → sequenceLength text ≡ n → keep 0 count (characters text) ≡ []
-    cases zero e = rw (characters-none text e) (keep-empty 0 count)
-    cases (suc m) e = rw (characters-step text m e) (keep-over 0 count _ _ (rw (length-first text m e) (omega arith)))
+    not-true : (b : Bool) → not b ≡ true → b ≡ false
+    not-true true e = absurd (false≢true e)
+    not-true false e = refl
 
-pub turn-fits : (text : List ℕ) (at n : ℕ) → at ≤ length text → n ≡ sequenceLength (drop at text) → at + n ≤ length text
-turn-fits text at n h e = omega (arith, sequence-fits (drop at text), length-drop at text)
+run-joins : (text : List ℕ) (at : ℕ) (run : List (List ℕ)) (sequence : List ℕ) → length (flatten run) ≡ at → isCombiningMark sequence ≡ combiningMarkAt (drop at text)
+    → startsCharacter text at ≡ false → LastGrown (grouped (run ++ sequence ∷ [])) (grouped run)
+unfolding startsCharacter
+run-joins text zero run sequence octets here joins = absurd (false≢true (sym joins))
+run-joins text (suc at) run sequence octets here joins = grouped-mark run sequence (here ∙ not-false (combiningMarkAt (drop (suc at) text)) joins) (some-run run at octets)
+  where
+    not-false : (b : Bool) → not b ≡ false → b ≡ true
+    not-false true e = refl
+    not-false false e = absurd (false≢true (sym e))
 
-pub turns-ended : (text : List ℕ) (at : ℕ) → length text ≤ at → sequenceLength (drop at text) ≡ 0
-turns-ended text at h = omega (arith, sequence-fits (drop at text), length-drop at text)
+-- a sequence of n octets follows
+module _ (text : List ℕ) (at n : ℕ) (read : ReadTo text at) (e : n ≡ sequenceLength (drop at text)) (some : n ≡ 0 → ⊥) where
+  abbrev sequence : List ℕ
+  sequence = take n (drop at text)
 
-pub turn-octets : (text : List ℕ) (at n : ℕ) → n ≡ sequenceLength (drop at text) → (n ≡ 0 → ⊥) → wellFormedOctets (drop at text) ≡ n + wellFormedOctets (drop (at + n) text)
-turn-octets text at zero e some = absurd (some refl)
-turn-octets text at (suc m) e some = octets-step (drop at text) m (sym e) ∙ rw drop-drop
+  pub turn-fits : at + n ≤ length text
+  turn-fits = omega (arith, sequence-fits (drop at text), length-drop at text, read .0)
 
-turn-characters : (text : List ℕ) (at n : ℕ) → n ≡ sequenceLength (drop at text) → (n ≡ 0 → ⊥) → characters (drop at text) ≡ take n (drop at text) ∷ characters (drop (at + n) text)
-turn-characters text at zero e some = absurd (some refl)
-turn-characters text at (suc m) e some = characters-step (drop at text) m (sym e) ∙ rw drop-drop
+  one : (n : ℕ) → n ≡ sequenceLength (drop at text) → (n ≡ 0 → ⊥) → sequences (take n (drop at text)) ≡ take n (drop at text) ∷ []
+  one zero e some = absurd (some refl)
+  one (suc m) e some = ap sequences (sym (append-nil (take (suc m) (drop at text)))) ∙ (first-again (drop at text) [] m (sym e) ∙ rw sequences-empty)
 
-pub turn-count : (text : List ℕ) (at n : ℕ) → n ≡ sequenceLength (drop at text) → (n ≡ 0 → ⊥) → length (characters (drop at text)) ≡ suc (length (characters (drop (at + n) text)))
-turn-count text at n e some = rw (turn-characters text at n e some)
+  turn-sequences : sequences (take (at + n) text) ≡ sequences (take at text) ++ sequence ∷ []
+  turn-sequences = ap sequences (take-add at n text) ∙ (sequences-append (take at text) sequence (read .1 ∙ sym (read-length text at read)) ∙ rw (one n e some))
 
--- what the two limits leave of the characters behind an offset, with some octets and characters kept before it
-abbrev pub left : ℕ → ℕ → List ℕ → ℕ → ℕ → List (List ℕ)
-left octets count text at kept = keep (octets - at) (count - kept) (characters (drop at text))
+  pub turn-read : ReadTo text (at + n)
+  unfolding wellFormedOctets flatten
+  turn-read =
+      let octets : length (flatten (sequences (take at text) ++ sequence ∷ [])) ≡ at + n = ap length (flatten-append (sequences (take at text)) (sequence ∷ [])) ∙ rw (append-nil, length-append, read .1, length-take-le n (drop at text) (omega (arith, sequence-fits (drop at text)))) in
+      (turn-fits, ap (λ (run : List (List ℕ)). length (flatten run)) turn-sequences ∙ octets)
 
-pub left-first : (octets count : ℕ) (text : List ℕ) → keep octets count (characters text) ≡ left octets count text 0 0
-left-first octets count text = rw (sub-zero octets, sub-zero count)
+  mark-here : isCombiningMark sequence ≡ combiningMarkAt (drop at text)
+  unfolding combiningMarkAt
+  mark-here = ap (λ (k : ℕ). isCombiningMark (take k (drop at text))) e
 
-pub left-last : (octets count : ℕ) (text : List ℕ) (at kept : ℕ) → length text ≤ at → left octets count text at kept ≡ []
-left-last octets count text at kept h = rw (characters-none (drop at text) (turns-ended text at h)) (keep-empty (octets - at) (count - kept))
+  -- it starts a character
+  pub turn-starts : startsCharacter text at ≡ true → characters (take (at + n) text) ≡ characters (take at text) ++ sequence ∷ []
+  unfolding characters
+  turn-starts starts = ap grouped turn-sequences ∙ run-starts text at (sequences (take at text)) sequence (λ z. rw z sequences-empty) mark-here starts
 
-module _ (octets count : ℕ) (text : List ℕ) (at n kept : ℕ) (e : n ≡ sequenceLength (drop at text)) (some : n ≡ 0 → ⊥) where
-  abbrev character : List ℕ
-  character = take n (drop at text)
+  -- it joins the last one
+  pub turn-joins : startsCharacter text at ≡ false → LastGrown (characters (take (at + n) text)) (characters (take at text))
+  unfolding characters flatten wellFormedOctets
+  turn-joins joins = rw turn-sequences (run-joins text at (sequences (take at text)) sequence (read .1) mark-here joins)
 
-  length-character : length character ≡ n
-  length-character = length-take-le n (drop at text) (omega (arith, sequence-fits (drop at text)))
+-- ---- what is kept
 
-  turn-kept : at + n ≤ octets → kept < count → left octets count text at kept ≡ character ∷ left octets count text (at + n) (kept + 1)
-  turn-kept fits more =
-      let one-less : count - kept ≡ suc (count - (kept + 1)) = omega arith in
-      let room : length character ≤ octets - at = omega (arith, length-character) in
-      let less : octets - at - length character ≡ octets - (at + n) = omega (arith, length-character) in
-      rw (turn-characters text at n e some, one-less, keep-first (octets - at) (count - (kept + 1)) character (characters (drop (at + n) text)) room, less)
+-- what is kept of the characters of a front part without its last one, which combining marks may still join
+abbrev pub keptBefore : ℕ → ℕ → List (List ℕ) → List (List ℕ)
+keptBefore octets count run = keep octets count (take (length run - 1) run)
 
-  pub turn-kept-octets : at + n ≤ octets → kept < count → length (flatten (left octets count text at kept)) ≡ n + length (flatten (left octets count text (at + n) (kept + 1)))
-  unfolding flatten
-  turn-kept-octets fits more = rw (turn-kept fits more, length-append, length-character)
+-- with one character more, those before it may all be kept
+pub before-more : (octets count : ℕ) (run : List (List ℕ)) (character : List ℕ) → keptBefore octets count (run ++ character ∷ []) ≡ keep octets count run
+before-more octets count run character =
+    let less : length (run ++ character ∷ []) - 1 ≡ length run = omega (arith, length-append run (character ∷ [])) in
+    rw less (ap (keep octets count) (take-append-seam run (character ∷ [])))
 
-  pub turn-kept-count : at + n ≤ octets → kept < count → length (left octets count text at kept) ≡ suc (length (left octets count text (at + n) (kept + 1)))
-  turn-kept-count fits more = rw (turn-kept fits more)
+-- a mark more changes nothing of it
+pub before-grown : (octets count : ℕ) (grown run : List (List ℕ)) → LastGrown grown run → 0 < length run → keptBefore octets count grown ≡ keptBefore octets count run
+before-grown octets count grown run same some = rw (same .0) (ap (keep octets count) (same .1 (length run - 1) (omega arith)))
 
-  pub turn-left : (octets < at + n) ⊎ (count ≤ kept) → left octets count text at kept ≡ left octets count text (at + n) kept
-  turn-left = ⊎-elim over full
-    where
-      over : octets < at + n → left octets count text at kept ≡ left octets count text (at + n) kept
-      over h =
-          let room : octets - at < length character = omega (arith, length-character) in
-          let none : octets - (at + n) ≡ 0 = omega arith in
-          rw (turn-characters text at n e some, none, keep-over (octets - at) (count - kept) character (characters (drop (at + n) text)) room, keep-no-octets (drop (at + n) text) (count - kept))
+-- all characters of the front part are kept if they are within both limits, and if not, those before the last may be
+module _ (octets count : ℕ) (text : List ℕ) (at : ℕ) (read : ReadTo text at) (begun : ℕ) (counted : begun ≡ length (characters (take at text))) where
+  pub all-kept : at ≤ octets → begun ≤ count → keep octets count (characters (take at text)) ≡ characters (take at text)
+  all-kept h k = keep-whole octets count (characters (take at text)) (omega (arith, read-octets text at read)) (omega arith)
 
-      full : count ≤ kept → left octets count text at kept ≡ left octets count text (at + n) kept
-      full h = let none : count - kept ≡ 0 = omega arith in rw (none, keep-none (octets - at) (characters (drop at text)), keep-none (octets - (at + n)) (characters (drop (at + n) text)))
+  pub part-kept : (octets < at) ⊎ (count < begun) → keep octets count (characters (take at text)) ≡ keptBefore octets count (characters (take at text))
+  part-kept over = keep-part octets count (characters (take at text)) (⊎-elim (λ (h : octets < at). inl (omega (arith, read-octets text at read))) (λ (h : count < begun). inr (omega arith)) over)

@@ -1,4 +1,4 @@
--- Measuring a text and fitting a label (01, Labels), and the number and values of document 01 that each answer stands for.
+-- Measuring a text and fitting a label (01, Labels; 02, E1), and the number and values of document 01 that each answer stands for.
 use mathlib.Core.Bool.{cond}
 use mathlib.Core.List.{List, [], _∷_, flatten}
 use Prim.Native.Nat.{ℕ, zero, suc, _-_, _≤_}

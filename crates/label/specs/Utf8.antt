@@ -6,7 +6,7 @@ use lib.Dec.{leb, eqb}
 use lib.ListN.{length, take}
 
 infix 70 _to_
--- the octets from a least to a greatest one
+-- the numbers from a least to a greatest one
 pub record Range : Type 0 where
   pub least : ℕ
   pub greatest : ℕ
@@ -15,7 +15,7 @@ abbrev pub _to_ : ℕ → ℕ → Range
 low to high = record { least = low; greatest = high }
 
 abbrev pub inRange : Range → ℕ → Bool
-inRange range octet = leb (range .least) octet && leb octet (range .greatest)
+inRange range n = leb (range .least) n && leb n (range .greatest)
 
 -- RFC 3629 section 4, UTF8-tail
 abbrev pub tail : Range

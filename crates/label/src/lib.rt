@@ -1,11 +1,13 @@
 // A label's text: whether it is well-formed UTF-8 (RFC 3629), how many characters it has, and its longest
-// front part of whole characters within an octet limit and a character limit (01, Labels).
+// front part of whole characters within an octet limit and a character limit (01, Labels; 02, E1).
 ghost use mathlib.Core.Path.{_≡_};
 ghost use denote.Ref.{ptr};
 ghost use Rattle.label.specs.Fitting.{answerOfText, answerOfFitting, measured, fitOf, keptPart, frontOf};
 
+mod character;
 mod utf8;
 
+use character::starts_character;
 use numbers::Characters;
 use numbers::Octets;
 use utf8::sequence_at;
@@ -39,8 +41,10 @@ pub fn measure(text: &[u8]) -> Text
         if length == 0 {
             return Text::IllFormed(Octets(at));
         }
+        if starts_character(text, at, length) {
+            characters += 1;
+        }
         at += length;
-        characters += 1;
     }
     Text::WellFormed(Characters(characters))
 }
@@ -53,6 +57,7 @@ pub fn fit(label: &[u8], octets: Octets, characters: Characters) -> Fitting
     let octet_limit = octets.0;
     let character_limit = characters.0;
     let mut at = 0;
+    let mut begun = 0;
     let mut kept_octets = 0;
     let mut kept_characters = 0;
     while at < label.len() {
@@ -60,12 +65,18 @@ pub fn fit(label: &[u8], octets: Octets, characters: Characters) -> Fitting
         if length == 0 {
             return Fitting::IllFormed(Octets(at));
         }
-        at += length;
-        // Once a character does not fit, no later one does: `at` only grows, and what is kept stays.
-        if at <= octet_limit && kept_characters < character_limit {
-            kept_octets += length;
-            kept_characters += 1;
+        if starts_character(label, at, length) {
+            // Those begun before are whole now: no combining mark follows them.
+            if at <= octet_limit && begun <= character_limit {
+                kept_octets = at;
+                kept_characters = begun;
+            }
+            begun += 1;
         }
+        at += length;
+    }
+    if at <= octet_limit && begun <= character_limit {
+        return Fitting::Kept(Octets(at), Characters(begun));
     }
     Fitting::Kept(Octets(kept_octets), Characters(kept_characters))
 }

@@ -1,3 +1,4 @@
+pub mod Earlier
 pub mod Grants
 pub mod InUse
 pub mod Limits

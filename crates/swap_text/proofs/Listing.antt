@@ -5,7 +5,8 @@ use mathlib.Core.List.{List, [], _∷_, _++_, flatten}
 use Prim.Native.Nat.{ℕ}
 use lib.ListN.{length}
 use Rattle.label.specs.Utf8.{table, begins, rowAt, sequenceLength, sequencesFrom, sequences, wellFormedOctets, wellFormed}
-use Rattle.label.specs.Character.{grouped, characters}
+use Rattle.label.specs.CodePoint.{codePoint}
+use Rattle.label.specs.Character.{isCombiningMark, joinedTo, grouped, characters}
 use Rattle.label.specs.Fitting.{judged, measured}
 use Rattle.label.proofs.Laws.{measured-well-formed}
 use Rattle.number.specs.Groups.{groups, joined, decoded, bounded, frontNumber}
@@ -26,10 +27,16 @@ example =
     0x02 ∷ 0x11 ∷ 0x22 ∷ 0x33 ∷ 0x44 ∷ 0x55 ∷ 0x66 ∷ 0x0A ∷ 0x01 ∷ 0x04 ∷ 0x5A ∷ 0x6F ∷ 0xC3 ∷ 0xA9 ∷
     0x11 ∷ 0x22 ∷ 0x33 ∷ 0x44 ∷ 0x55 ∷ 0x66 ∷ 0x0B ∷ 0x00 ∷ 0x02 ∷ 0x00 ∷ 0xFF ∷ []
 
--- 01, Swap file: "it prints exactly"
-pub example-listed : listing (readFile example) ≡ quoted "records 2\n112233445566 0A label octets 4 characters 3\n112233445566 0B raw octets 2\n"
-unfolding listing countLine recordLines recordLine nameText kindText charactersText hexText digitOf decimalText decimal readFile readCounted readRecords preceded items.judged goodAddress goodKind lengthField limited goodContent judgedContent frontRecord knownKind kindOf lengthLimit fitsKind rankOf numberFrom frontNumber bounded decoded joined groups measured judged characters grouped wellFormed wellFormedOctets sequences sequencesFrom sequenceLength rowAt begins table flatten
-example-listed = refl
+-- 02, E1: Zoé with e and U+0301
+abbrev pub accentExample : List ℕ
+accentExample = 0x01 ∷ 0x11 ∷ 0x22 ∷ 0x33 ∷ 0x44 ∷ 0x55 ∷ 0x66 ∷ 0x0A ∷ 0x01 ∷ 0x05 ∷ 0x5A ∷ 0x6F ∷ 0x65 ∷ 0xCC ∷ 0x81 ∷ []
+
+-- 01, Swap file: "it prints exactly"; five octets are three characters as well as four are
+pub example-listed :
+    (listing (readFile example) ≡ quoted "records 2\n112233445566 0A label octets 4 characters 3\n112233445566 0B raw octets 2\n")
+    × (listing (readFile accentExample) ≡ quoted "records 1\n112233445566 0A label octets 5 characters 3\n")
+unfolding listing countLine recordLines recordLine nameText kindText charactersText hexText digitOf decimalText decimal readFile readCounted readRecords preceded items.judged goodAddress goodKind lengthField limited goodContent judgedContent frontRecord knownKind kindOf lengthLimit fitsKind rankOf numberFrom frontNumber bounded decoded joined groups measured judged characters grouped joinedTo isCombiningMark codePoint wellFormed wellFormedOctets sequences sequencesFrom sequenceLength rowAt begins table flatten
+example-listed = (refl, refl)
 
 -- a file whose count is in a longer form
 pub example-refused : listing (readFile (0x81 ∷ 0x00 ∷ [])) ≡ quoted "refused 18 at 0\n"
