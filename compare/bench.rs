@@ -1,4 +1,4 @@
-//! Self-tests on 01's own rows: labels, DATA limits, numbers, swap files, receiving.
+//! Self-tests on 01's own rows: labels, DATA limits, numbers, swap files, receiving; and on E1's labels.
 
 use crate::frame::{self, Address, Block, Body, Frame, Number};
 use crate::hex::{self, Hex};
@@ -18,25 +18,65 @@ pub const KEY: Block = [0x13, 0x34, 0x57, 0x79, 0x9B, 0xBC, 0xDF, 0xF1];
 pub const NA1: Block = [0x01, 0x23, 0x45, 0x67, 0x89, 0xAB, 0xCD, 0xEF];
 pub const NA2: Block = [0xFE, 0xDC, 0xBA, 0x98, 0x76, 0x54, 0x32, 0x10];
 
+const fn kept(octets: usize, characters: usize) -> Fit {
+    Fit::Kept(Octets(octets), Characters(characters))
+}
+
+const fn ill_formed_at(offset: usize) -> Fit {
+    Fit::IllFormed(Octets(offset))
+}
+
+/// Labels, each with an octet limit and a character limit.
+const FITTINGS: [(&str, usize, usize, Fit); 11] = [
+    ("C389C3A9", 3, 9, kept(2, 1)),
+    ("C389C3A9", 4, 1, kept(2, 1)),
+    ("C389C3A9", 1, 9, kept(0, 0)),
+    ("", 0, 0, kept(0, 0)),
+    ("", 9, 9, kept(0, 0)),
+    ("E282AC", 2, 9, kept(0, 0)),
+    ("41C3", 9, 9, ill_formed_at(1)),
+    ("C080", 9, 9, ill_formed_at(0)),
+    ("EDA080", 9, 9, ill_formed_at(0)),
+    ("F4908080", 9, 9, ill_formed_at(0)),
+    ("5A6FC3A9", 116, 116, kept(4, 3)),
+];
+
+/// 02, E1: a letter and its accent are one.
+const COMBINING_FITTINGS: [(&str, usize, usize, Fit); 20] = [
+    ("65CC81", 1, 9, kept(0, 0)),
+    ("65CC81", 2, 9, kept(0, 0)),
+    ("65CC81", 3, 1, kept(3, 1)),
+    ("65CC81", 3, 0, kept(0, 0)),
+    ("5A6F65CC81", 4, 9, kept(2, 2)),
+    ("5A6F65CC81", 5, 2, kept(2, 2)),
+    ("5A6F65CC81", 5, 3, kept(5, 3)),
+    ("5A6F65CC81", 9, 9, kept(5, 3)),
+    ("CC81CDAF", 9, 9, kept(4, 1)),
+    ("CC81CC80", 3, 9, kept(0, 0)),
+    ("CC816F", 9, 9, kept(3, 2)),
+    ("20CC81", 9, 9, kept(3, 1)),
+    ("0ACC81", 9, 9, kept(3, 1)),
+    ("65CBBF", 9, 9, kept(3, 2)),
+    ("65CDB0", 9, 9, kept(3, 2)),
+    ("65E1AAB0", 9, 9, kept(4, 2)),
+    ("65E2808D65", 9, 9, kept(5, 3)),
+    ("65CC81FF", 9, 9, ill_formed_at(3)),
+    ("65CC81CC", 9, 9, ill_formed_at(3)),
+    ("65CCFF", 9, 9, ill_formed_at(1)),
+];
+
+/// 02, E1: é and 57 combining marks, which are one character of 116 octets.
+pub fn full_character() -> Vec<u8> {
+    ["é", &"\u{301}".repeat(57)].concat().into_bytes()
+}
+
 pub fn labels() -> Result<usize, Disagreement> {
-    let kept = |octets, characters| Fit::Kept(Octets(octets), Characters(characters));
-    let ill_formed_at = |offset| Fit::IllFormed(Octets(offset));
-    let rows = [
-        ("C389C3A9", 3, 9, kept(2, 1)),
-        ("C389C3A9", 4, 1, kept(2, 1)),
-        ("C389C3A9", 1, 9, kept(0, 0)),
-        ("", 0, 0, kept(0, 0)),
-        ("", 9, 9, kept(0, 0)),
-        ("E282AC", 2, 9, kept(0, 0)),
-        ("41C3", 9, 9, ill_formed_at(1)),
-        ("C080", 9, 9, ill_formed_at(0)),
-        ("EDA080", 9, 9, ill_formed_at(0)),
-        ("F4908080", 9, 9, ill_formed_at(0)),
-        ("5A6FC3A9", 116, 116, kept(4, 3)),
-    ];
-    for (label, octet_limit, character_limit, expected) in rows {
-        let fit = utf8::fit(&hex::octets(label), Octets(octet_limit), Characters(character_limit));
-        same(fit, expected, || format!("{label}, limits {octet_limit} and {character_limit}"))?;
+    let full = hex::text(&full_character());
+    let full_rows = [(&full[..], 116, 1, kept(116, 1)), (&full, 115, 9, kept(0, 0))];
+    let rows = [&FITTINGS[..], &COMBINING_FITTINGS, &full_rows].concat();
+    for (label, octet_limit, character_limit, expected) in &rows {
+        let fit = utf8::fit(&hex::octets(label), Octets(*octet_limit), Characters(*character_limit));
+        same(fit, *expected, || format!("{label}, limits {octet_limit} and {character_limit}"))?;
     }
     Ok(rows.len())
 }
@@ -87,8 +127,19 @@ const SAMPLE_LISTING: &str = "records 2
 112233445566 0B raw octets 2
 ";
 
+/// 02, E1: a label with an accent; one right before an address that starts with the octets of a combining
+/// mark; one of combining marks alone.
+pub const COMBINING_SAMPLE: &str =
+    "03 112233445566 0A 01 05 5A6F65CC81 112233445566 0B 01 01 65 CC8133445566 0A 01 04 CC81CDAF";
+
+const COMBINING_LISTING: &str = "records 3
+112233445566 0A label octets 5 characters 3
+112233445566 0B label octets 1 characters 1
+CC8133445566 0A label octets 4 characters 1
+";
+
 /// A faulty file of each item, with the offset that comes with 18.
-pub const FAULTY_FILES: [(&str, usize); 17] = [
+pub const FAULTY_FILES: [(&str, usize); 18] = [
     ("", 0),
     ("80", 0),
     ("8100", 0),
@@ -104,19 +155,23 @@ pub const FAULTY_FILES: [(&str, usize); 17] = [
     ("01 112233445566 0A 00 8000", 9),
     ("01 112233445566 0A 00 04 5A6FC3", 10),
     ("01 112233445566 0A 01 04 5A6FC3C3", 10),
+    ("01 112233445566 0A 01 04 5A6F65CC", 10),
     ("01 112233445566 0A 01 04 5A6FC3A9 00", 14),
     ("00 00", 1),
 ];
 
-/// 01's file, and a fault of every item in it.
+/// 01's file, a file with E1's labels, and a fault of every item.
 pub fn swap_files() -> Result<usize, Disagreement> {
     same(swap::listing(&hex::octets(SAMPLE)), SAMPLE_LISTING.into(), || SAMPLE.into())?;
+    same(swap::listing(&hex::octets(COMBINING_SAMPLE)), COMBINING_LISTING.into(), || {
+        COMBINING_SAMPLE.into()
+    })?;
     for (file, offset) in FAULTY_FILES {
         same(swap::listing(&hex::octets(file)), format!("refused 18 at {offset}\n"), || file.into())?;
     }
     same(swap::listing(&[0; 65_536]), "refused 18 at 1\n".into(), || "65536 zeros".into())?;
     same(swap::listing(&[0; 65_537]), "refused 18 at 65536\n".into(), || "65537 zeros".into())?;
-    Ok(FAULTY_FILES.len() + 3)
+    Ok(FAULTY_FILES.len() + 4)
 }
 
 /// The writer: 18 with the reader's offset, even where the buffer is too short as well; the buffer is kept.
@@ -180,8 +235,10 @@ pub fn random_records(rng: &mut Rng) -> Vec<swap::Record> {
     for tab in 0..rng.below(6) as u8 {
         ads[3 + rng.below(3)] += 1;
         let label = rng.once_in(2);
-        let count = rng.below(20);
-        let data = if label { random_text::well_formed(rng, count) } else { rng.octets(count) };
+        let octets = rng.below(20);
+        // So many that a label has 116 octets at most.
+        let characters = rng.below(116 / random_text::LONGEST_CHARACTER + 1);
+        let data = if label { random_text::well_formed(rng, characters) } else { rng.octets(octets) };
         records.push(swap::Record { ads, tab, kind: if label { LABEL } else { RAW }, data });
     }
     records

@@ -1,5 +1,5 @@
 //! Self-tests on 01's rows of the card: setup, exchanges, what is tempting and wrong, and what 12 refuses;
-//! and on E5's keys in them.
+//! and on E5's keys and E1's labels in them.
 
 use crate::bench::{ADDRESS, FOREIGN, KEY, NA1, NA2};
 use crate::card::{Answer, Card, Wait};
@@ -14,6 +14,9 @@ use crate::utf8::{Characters, Octets};
 
 /// Three characters in twelve octets, over the octet limit of the records here.
 const TOO_LONG: &str = "\u{10000}\u{10000}\u{10000}";
+
+/// 02, E1: three characters in five octets.
+const DECOMPOSED: &[u8] = "Zoe\u{301}".as_bytes();
 
 fn record(tab: u8, kind: u8, data: &[u8]) -> Record {
     let (octet_limit, character_limit) = (Octets(10), Characters(3));
@@ -38,7 +41,8 @@ pub fn setups() -> Result<usize, Disagreement> {
     let unknown_kind = record(4, 2, &[]);
     let far_limit = Record { octet_limit: Octets(117), ..record(5, RAW, &[]) };
     let many: Vec<Record> = (0..33).map(|tab| record(tab, RAW, &[])).collect();
-    let rows: [(&[u8], &[u8], &[Record], Option<Number>); 16] = [
+    let decomposed = record(1, LABEL, DECOMPOSED);
+    let rows: [(&[u8], &[u8], &[Record], Option<Number>); 18] = [
         (&BROADCAST[..5], &KEY, &[unknown_kind.clone()], Some(17)),
         (&ADDRESS, &KEY[..7], &[], Some(17)),
         (&BROADCAST, &KEY, &[unknown_kind.clone()], Some(6)),
@@ -55,6 +59,8 @@ pub fn setups() -> Result<usize, Disagreement> {
         (&ADDRESS, &KEY, &[ill_formed], Some(8)),
         (&ADDRESS, &KEY, &[record(1, LABEL, TOO_LONG.as_bytes())], Some(7)),
         (&ADDRESS, &KEY, &[record(1, LABEL, "Zoé".as_bytes())], None),
+        (&ADDRESS, &KEY, &[Record { character_limit: Characters(2), ..decomposed.clone() }], Some(9)),
+        (&ADDRESS, &KEY, &[decomposed], None),
     ];
     for (row, (address, key, records, expected)) in rows.iter().enumerate() {
         same(Card::setup(address, key, records).err(), *expected, || format!("setup row {row}"))?;
@@ -172,6 +178,36 @@ pub fn exchanges() -> Result<usize, Disagreement> {
     bench.expect(ADDRESS, 7, Body::Enq { tab: 0x0A }, None, Some(dat), label)?;
     bench.expect(ADDRESS, 7, Body::Enq { tab: 0x0B }, Some(10), Some(Body::Drj), label)?;
     Ok(bench.rows)
+}
+
+/// 02, E1: a record takes three characters, whatever combining marks they have, and not four (9), after 7
+/// and 8. A card that holds more than its limit is refused with 12.
+pub fn combining_marks() -> Result<usize, Disagreement> {
+    let mut bench = CardBench::fresh();
+    let trf = |data: &[u8]| Body::Trf { tab: 0x0A, data: data.to_vec() };
+    bench.expect(ADDRESS, 1, rec(DECOMPOSED), None, ech(DECOMPOSED), b"old")?;
+    bench.expect(ADDRESS, 1, aut(), None, Some(Body::Eos), DECOMPOSED)?;
+    let four = "Zoee\u{301}".as_bytes();
+    bench.expect(ADDRESS, 1, rec(four), None, ech(four), DECOMPOSED)?;
+    bench.expect(ADDRESS, 1, aut(), Some(9), Some(Body::Drj), DECOMPOSED)?;
+    bench.expect(ADDRESS, 1, trf(four), Some(9), Some(Body::Drj), DECOMPOSED)?;
+    bench.expect(BROADCAST, 1, Body::Trb { tab: 0x0A, data: four.to_vec() }, Some(9), None, DECOMPOSED)?;
+    let one = "e\u{301}\u{301}\u{301}\u{301}".as_bytes();
+    bench.expect(ADDRESS, 1, trf(one), None, Some(Body::Tra), one)?;
+    let combining_first = "\u{301}oe\u{301}".as_bytes();
+    bench.expect(ADDRESS, 1, trf(combining_first), None, Some(Body::Tra), combining_first)?;
+    let too_long = "e\u{301}\u{301}\u{301}\u{301}\u{301}".as_bytes();
+    bench.expect(ADDRESS, 1, trf(too_long), Some(7), Some(Body::Drj), combining_first)?;
+    bench.expect(ADDRESS, 1, trf(&[four, &[0xCC]].concat()), Some(8), Some(Body::Drj), combining_first)?;
+    same(bench.card.meter_write(0x0A, four).number, Some(9), || "a meter write of four".into())?;
+    same(bench.card.meter_write(0x0A, DECOMPOSED).number, None, || "a meter write of three".into())?;
+    same(Hex(&bench.card.records[0].data), Hex(DECOMPOSED), || "the record after it".into())?;
+    for (character_limit, refused) in [(2, true), (3, false)] {
+        let held = Record { character_limit: Characters(character_limit), ..record(0x0A, LABEL, DECOMPOSED) };
+        let card = Card { records: vec![held], ..CardBench::fresh().card };
+        same(refused_with_12(card), refused, || format!("a card with the limit {character_limit}"))?;
+    }
+    Ok(bench.rows + 5)
 }
 
 /// Every call of an unsound card is refused with 12, after 17, and changes nothing.

@@ -73,14 +73,15 @@ fn old_card() -> Card {
     let records = [
         raw(0x01, 4, &[0x00, 0x01, 0x86, 0xA0]),
         raw(0x02, 8, &[0x06, 0x17, 0x21, 0x0A]),
-        text(0x0A, 16, 16, "Zoé"),
+        // 02, E1: é as e and U+0301, so that these are the three characters that the new card takes.
+        text(0x0A, 16, 16, "Zoe\u{301}"),
         text(0x0B, 40, 40, "Résidence du Château"),
     ];
     card(FLAT, FLAT_KEY, &records)
 }
 
 fn new_card() -> Card {
-    let records = [raw(0x01, 4, &[]), raw(0x02, 8, &[]), text(0x0A, 16, 16, ""), text(0x0B, 17, 20, "")];
+    let records = [raw(0x01, 4, &[]), raw(0x02, 8, &[]), text(0x0A, 16, 3, ""), text(0x0B, 17, 20, "")];
     card(FLAT, FLAT_KEY, &records)
 }
 

@@ -3,9 +3,8 @@
 use crate::bench::{ADDRESS, FOREIGN, KEY, NA2};
 use crate::card::Card;
 use crate::card_memory;
-use crate::ffi::card as ours;
 use crate::ffi::Lent;
-use crate::figures::{keep, label, table, Runner};
+use crate::figures::{keep, label, table, Calls, Runner, CALLS, WORDS};
 use crate::frame::{Address, Body, Frame, LONGEST};
 use crate::random_frames;
 use crate::record::{Record, LABEL, RAW};
@@ -18,7 +17,7 @@ const TURNS: usize = 2_000;
 
 /// A label of 116 octets.
 fn full_label(rng: &mut Rng) -> Vec<u8> {
-    let mut text = label(rng).into_bytes();
+    let mut text = label(rng, WORDS).into_bytes();
     text.resize(card_memory::STORED, b'a');
     text
 }
@@ -46,15 +45,16 @@ fn small_card(rng: &mut Rng) -> Card {
     Card::setup(&ADDRESS, &KEY, &[record(1, RAW, rng.octets(4))]).expect("an accepted setup")
 }
 
-/// Our memory after our setup of the card.
-fn memory_of(card: &Card) -> Lent {
+/// The memory after a setup of the card.
+fn memory_of(calls: &Calls, card: &Card) -> Lent {
     let mut entries: Vec<u8> =
         card.records.iter().flat_map(|record| card_memory::entry(record, &mut || 0)).collect();
     entries.resize(card_memory::ENTRIES, 0);
     let mut memory = Lent::new(&[0; card_memory::MEMORY]);
     let (mut address, mut key, mut entries) =
         (Lent::new(&card.address), Lent::new(&card.key), Lent::new(&entries));
-    assert_eq!(ours::setup(&mut memory, &mut address, &mut key, card.records.len() as u8, &mut entries), 0);
+    let count = card.records.len() as u8;
+    assert_eq!((calls.card_setup)(&mut memory, &mut address, &mut key, count, &mut entries), 0);
     memory
 }
 
@@ -64,14 +64,14 @@ fn frames(ads: Address, mut body: impl FnMut(usize) -> Body) -> Vec<u8> {
 }
 
 /// Hands the octets to three like cards, which give and hold the same after each octet and refuse none; the count of replies.
-fn agreeing(card: &Card, octets: &[u8]) -> usize {
-    let (mut card, mut lent, mut replies) = (card.clone(), memory_of(card), 0);
+fn agreeing(calls: &Calls, card: &Card, octets: &[u8]) -> usize {
+    let (mut card, mut lent, mut replies) = (card.clone(), memory_of(calls, card), 0);
     let mut memory = lent.octets().to_vec();
     let (mut number, mut reply) = (Lent::new(&NA2), Lent::new(&[0; LONGEST]));
     let mut buffers = [[0; LONGEST]; 2];
     for octet in octets {
         let (mut length, mut expected) = (0, 0);
-        let gave = ours::step_octet(&mut lent, *octet, &mut number, &mut reply, &mut length);
+        let gave = (calls.card_step_octet)(&mut lent, *octet, &mut number, &mut reply, &mut length);
         let answer = card.octet(*octet, &NA2, &mut buffers[1]);
         assert_eq!(gave, card_memory::octet(&mut memory, *octet, &NA2, &mut buffers[0], &mut expected));
         assert_eq!((gave, length, length), (0, expected, answer.reply));
@@ -83,30 +83,31 @@ fn agreeing(card: &Card, octets: &[u8]) -> usize {
 }
 
 fn octet_calls(what: &str, card: &Card, octets: &[u8], replies: usize) {
-    assert_eq!(agreeing(card, octets), replies);
-    let (mut lent, mut number, mut reply) = (memory_of(card), Lent::new(&NA2), Lent::new(&[0; LONGEST]));
-    let (mut memory, mut value) = (lent.octets().to_vec(), card.clone());
+    let mut runners: Vec<Runner> = vec![];
+    for calls in CALLS {
+        assert_eq!(agreeing(calls, card, octets), replies);
+        let (mut lent, mut number, mut reply) =
+            (memory_of(calls, card), Lent::new(&NA2), Lent::new(&[0; LONGEST]));
+        let run = move || {
+            for octet in octets {
+                let mut length = 0;
+                keep((calls.card_step_octet)(&mut lent, *octet, &mut number, &mut reply, &mut length));
+                keep(length);
+            }
+        };
+        runners.push((calls.program, Box::new(run)));
+    }
+    let (mut memory, mut value) = (memory_of(&CALLS[0], card).octets().to_vec(), card.clone());
     let (mut buffer, mut other, mut told) = ([0; LONGEST], [0; LONGEST], 0);
-    let ours = Box::new(|| {
-        for octet in octets {
-            let mut length = 0;
-            keep(ours::step_octet(&mut lent, *octet, &mut number, &mut reply, &mut length));
-            keep(length);
-        }
-    });
-    let plain = Box::new(|| {
+    let plain = move || {
         octets.iter().for_each(|octet| {
             keep(card_memory::octet(&mut memory, *octet, &NA2, &mut buffer, &mut told));
             keep(told);
         })
-    });
-    let plain_value =
-        Box::new(|| octets.iter().for_each(|octet| keep(value.octet(*octet, &NA2, &mut other))));
-    let runners: Vec<Runner> = vec![
-        ("ours", ours),
-        ("bit by bit, Rust, same memory", plain),
-        ("bit by bit, Rust, a value", plain_value),
-    ];
+    };
+    let plain_value = move || octets.iter().for_each(|octet| keep(value.octet(*octet, &NA2, &mut other)));
+    runners.push(("bit by bit, Rust, same memory", Box::new(plain)));
+    runners.push(("bit by bit, Rust, a value", Box::new(plain_value)));
     table(what, octets.len(), TURNS, runners);
 }
 

@@ -42,6 +42,11 @@ mod utf8;
 mod vectors;
 mod wire;
 
+/// The calls of an earlier revision, made by `compare/figures REVISION`.
+#[cfg(part_before)]
+#[allow(dead_code, unused_doc_comments)]
+#[path = "../target/before/ffi.rs"]
+mod before;
 #[cfg(part_card)]
 mod card_calls;
 #[cfg(part_card)]
@@ -185,6 +190,7 @@ fn self_tests(rng: &mut Rng, cases: usize) -> bool {
         && tell("des", vectors::des())
         && tell("weak keys", vectors::weak_keys(rng))
         && tell("utf8 beside Rust's library", vectors::utf8(rng))
+        && tell("combining marks, every code point", vectors::combining_marks())
         && tell("worked frames", vectors::frames())
         && tell("frame refusals", vectors::frame_refusals(rng))
         && tell("frame laws", vectors::frame_laws(rng))
@@ -198,6 +204,7 @@ fn self_tests(rng: &mut Rng, cases: usize) -> bool {
         && tell("card setup rows", bench_card::setups())
         && tell("card setup rows, keys", bench_card::setup_keys())
         && tell("card exchange rows", bench_card::exchanges())
+        && tell("card rows, combining marks", bench_card::combining_marks())
         && tell("card soundness rows", bench_card::soundness())
         && tell("tool wake-up rows", bench_tool::wake_ups())
         && tell("tool refusal rows", bench_tool::refusals())

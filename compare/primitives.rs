@@ -1,5 +1,6 @@
 //! CRC, DES and labels of our library beside the model, over structured, random and damaged input.
 
+use crate::bench;
 use crate::crc;
 use crate::des;
 use crate::ffi::primitives as ours;
@@ -176,12 +177,64 @@ pub fn labels(rng: &mut Rng, random_cases: usize) -> Result<usize, Disagreement>
         let limits = label_limits(rng, label);
         label_case(rng, label, limits)?;
     }
+    let mut cases = structured.len() + random_cases;
+    for label in labels_with_combining_marks() {
+        cases += label_at_every_limit(rng, &label)?;
+    }
+    cases += every_code_point(rng)?;
     for _ in 0..random_cases {
         let label = label_random(rng);
         let limits = label_limits(rng, &label);
         label_case(rng, &label, limits)?;
     }
-    Ok(structured.len() + random_cases)
+    Ok(cases)
+}
+
+/// 02, E1: some words, and every label of at most three pieces. A piece is a sequence of each length, a
+/// combining mark at an edge of their range, what is none though near to it or like it, one cut short, or an
+/// octet that never occurs.
+fn labels_with_combining_marks() -> Vec<Vec<u8>> {
+    let edges = random_text::COMBINING_EDGES.into_iter().chain(random_text::NOT_COMBINING);
+    let sequences =
+        ['e', 'é', '€', '𝄞'].into_iter().chain(edges).map(|sequence| sequence.to_string().into_bytes());
+    let pieces: Vec<Vec<u8>> = sequences.chain([vec![], vec![0xCC], vec![0xFF]]).collect();
+    let mut labels = vec![bench::full_character(), "\u{301}".repeat(58).into_bytes()];
+    let words = [
+        "Zoe\u{301}",
+        "Re\u{301}sidence",
+        "1\u{301}\n\u{301} \u{301}\u{301}\0\u{301}",
+        "\u{301}\u{301}\u{301}Zo",
+    ];
+    labels.extend(words.map(|word| word.as_bytes().to_vec()));
+    for first in &pieces {
+        for second in &pieces {
+            labels.extend(pieces.iter().map(|third| [&first[..], second, third].concat()));
+        }
+    }
+    labels
+}
+
+/// 02, E1: each after an e, which the limits part from it unless it is a combining mark, and each before one.
+fn every_code_point(rng: &mut Rng) -> Result<usize, Disagreement> {
+    let mut cases = 0;
+    for code_point in '\0'..=char::MAX {
+        label_case(rng, format!("e{code_point}").as_bytes(), (1, 1))?;
+        label_case(rng, format!("{code_point}\u{301}").as_bytes(), (usize::MAX, usize::MAX))?;
+        cases += 2;
+    }
+    Ok(cases)
+}
+
+/// Every pair of limits from 0 to one over the counts of the label.
+fn label_at_every_limit(rng: &mut Rng, label: &[u8]) -> Result<usize, Disagreement> {
+    let mut cases = 0;
+    for octets in 0..=label.len() + 1 {
+        for characters in 0..=label_characters(label) + 1 {
+            label_case(rng, label, (octets, characters))?;
+            cases += 1;
+        }
+    }
+    Ok(cases)
 }
 
 /// All labels of at most two octets, those of three and four at the edges of each form, every cut of some
@@ -230,10 +283,14 @@ fn label_random(rng: &mut Rng) -> Vec<u8> {
     }
 }
 
+/// The characters of a label; where it is ill-formed and has none, its octets.
+fn label_characters(label: &[u8]) -> usize {
+    utf8::characters(label).map_or(label.len(), |count| count.0)
+}
+
 /// Limits about the counts of the label, none, as large as can be, or at random.
 fn label_limits(rng: &mut Rng, label: &[u8]) -> (usize, usize) {
-    let characters = utf8::characters(label).map_or(label.len(), |count| count.0);
-    (limit_about(rng, label.len()), limit_about(rng, characters))
+    (limit_about(rng, label.len()), limit_about(rng, label_characters(label)))
 }
 
 fn limit_about(rng: &mut Rng, count: usize) -> usize {

@@ -116,11 +116,11 @@ pub fn des_vectors(rng: &mut Rng, cases: usize) -> Result<usize, Disagreement> {
     Ok(tried)
 }
 
-/// 01's file, a faulty file of each item, 4,096 records, files about the longest that is taken, then random files:
-/// good, with a bit turned, cut, lengthened, or with two records exchanged.
+/// 01's file, a file with E1's labels, a faulty file of each item, 4,096 records, files about the longest
+/// that is taken, then random files: good, with a bit turned, cut, lengthened, or with two records exchanged.
 pub fn swaplist(rng: &mut Rng, cases: usize) -> Result<usize, Disagreement> {
     let mut files: Vec<Vec<u8>> = bench::FAULTY_FILES.iter().map(|(file, _)| hex::octets(file)).collect();
-    files.push(hex::octets(bench::SAMPLE));
+    files.extend([bench::SAMPLE, bench::COMBINING_SAMPLE].map(hex::octets));
     for (count, length) in [(4_096, 0), (4_096, 6), (4_097, 0), (520, 116), (521, 116)] {
         files.push(swap::encode(&rising(count, length)));
     }

@@ -35,11 +35,15 @@ fn limit(rng: &mut Rng) -> usize {
     }
 }
 
+/// Half of the labels have room for 116 octets. Where there is less, combining marks (02, E1) often bring a
+/// label to its octet limit before the character limit is met.
 fn record(rng: &mut Rng, tab: u8) -> Record {
+    let kind = rng.pick(&[RAW, LABEL]);
+    let roomy = kind == LABEL && rng.once_in(2);
     let mut record = Record {
         tab,
-        kind: rng.pick(&[RAW, LABEL]),
-        octet_limit: Octets(limit(rng)),
+        kind,
+        octet_limit: Octets(if roomy { 116 } else { limit(rng) }),
         character_limit: Characters(limit(rng)),
         readable: rng.pick(&[0, 1, 1]),
         open_to_programming: rng.pick(&[0, 1, 1]),
@@ -63,13 +67,16 @@ fn acceptable_data(rng: &mut Rng, record: &Record) -> Vec<u8> {
     label
 }
 
+/// A text at, one below or one above the character limit of a record.
+pub fn text_about_the_limit(rng: &mut Rng, record: &Record) -> Vec<u8> {
+    let characters = (record.character_limit.0 + rng.below(3)).saturating_sub(1);
+    random_text::well_formed(rng, characters)
+}
+
 /// Data for a record: acceptable, about its limits, or damaged; never over what a frame can carry.
 pub fn data(rng: &mut Rng, record: &Record, longest: usize) -> Vec<u8> {
     let mut data = match rng.below(6) {
-        0 => {
-            let characters = record.character_limit.0 + rng.below(2);
-            random_text::well_formed(rng, characters)
-        }
+        0 => text_about_the_limit(rng, record),
         1 => {
             let count = record.octet_limit.0 + rng.below(2);
             rng.octets(count)

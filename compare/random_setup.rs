@@ -2,7 +2,7 @@
 
 use crate::encoding::Given;
 use crate::frame::BROADCAST;
-use crate::random_history::Setup;
+use crate::random_history::{self, Setup};
 use crate::random_keys;
 use crate::random_text;
 use crate::record::{Record, LABEL, RAW};
@@ -94,7 +94,7 @@ fn contents(rng: &mut Rng, given: &mut Given) {
     record.data = match choice {
         0 => rng.octets((record.octet_limit.0 + about).saturating_sub(1).min(255)),
         1 => vec![b'e'; (record.octet_limit.0 + about).saturating_sub(1).min(255)],
-        2 => random_text::well_formed(rng, (record.character_limit.0 + about).saturating_sub(1).min(60)),
+        2 => random_history::text_about_the_limit(rng, record),
         _ => random_text::damaged(rng, record.data.clone()),
     };
     record.data.truncate(255);

@@ -23,14 +23,20 @@ pub fn of(program: &str) -> Option<Vec<u8>> {
     }
 }
 
-/// What the example fit prints of its label within 14 octets and 20 characters.
+/// What the example fit prints: of its label, whose 14th octet is the first half of an é; then of the same
+/// words with each é as e and U+0301 (02, E1), whose 15th octet is the bare e.
 fn fit() -> Vec<u8> {
-    let label = "Résidence Pré Fleuri".as_bytes();
-    let Fit::Kept(octets, characters) = utf8::fit(label, Octets(14), Characters(20)) else {
+    let composed = "Résidence Pré Fleuri";
+    let decomposed = composed.replace('é', "e\u{301}");
+    [fit_line(composed, Octets(14)), fit_line(&decomposed, Octets(15))].concat().into_bytes()
+}
+
+/// A label within 20 characters and so many octets.
+fn fit_line(label: &str, octet_limit: Octets) -> String {
+    let Fit::Kept(octets, characters) = utf8::fit(label.as_bytes(), octet_limit, Characters(20)) else {
         unreachable!("the label is well-formed")
     };
-    let counts = format!("{} octets, {} characters: ", octets.0, characters.0);
-    [counts.as_bytes(), &label[..octets.0], b"\n"].concat()
+    format!("{} octets, {} characters: {}\n", octets.0, characters.0, &label[..octets.0])
 }
 
 fn given() -> Given {

@@ -11,7 +11,7 @@ use crate::random_keys;
 use crate::random_text;
 use crate::report::{same, Case, Disagreement};
 use crate::rng::Rng;
-use crate::utf8::{self, Characters, Octets};
+use crate::utf8::{self, Characters, Fit, Octets};
 
 /// Keys and plaintexts of NIST SP 800-17's known-answer sets, with their ciphertexts.
 const DES_VECTORS: &str = include_str!("../crates/des_vectors/stdin");
@@ -105,21 +105,57 @@ pub fn weak_keys(rng: &mut Rng) -> Result<usize, Disagreement> {
     Ok(about.len() + 10 + 2 * 5_000 + 256 * 256)
 }
 
-/// Our reading of RFC 3629's table beside the one in Rust's library.
+/// Fitting by the `char`s of Rust's library (02, E1): a text may be cut at its start, at its end and before
+/// each `char` that is no combining mark.
+pub fn library_fit(text: &str, octet_limit: Octets, character_limit: Characters) -> (Octets, Characters) {
+    let starts = |(place, next): &(usize, char)| *place == 0 || !random_text::COMBINING_MARKS.contains(next);
+    let cuts = text.char_indices().filter(starts).map(|(place, _)| place).chain([text.len()]);
+    let kept = cuts.enumerate().map(|(count, cut)| (Octets(cut), Characters(count)));
+    let within = kept.take_while(|(octets, count)| *octets <= octet_limit && *count <= character_limit);
+    within.last().expect("a cut at the start")
+}
+
+/// Our reading of RFC 3629's table beside the one in Rust's library, and our characters beside those that
+/// a text was made of.
 pub fn utf8(rng: &mut Rng) -> Result<usize, Disagreement> {
     let cases = 20_000;
     for _ in 0..cases {
         let characters = rng.below(12);
         let mut text = random_text::well_formed(rng, characters);
+        same(utf8::characters(&text), Some(Characters(characters)), || hex::text(&text))?;
         for _ in 0..rng.below(3) {
             text = random_text::damaged(rng, text);
         }
-        let (count, front) = match std::str::from_utf8(&text) {
-            Ok(whole) => (Some(Characters(whole.chars().count())), Octets(text.len())),
-            Err(fault) => (None, Octets(fault.valid_up_to())),
+        let limits = (Octets(rng.below(text.len() + 2)), Characters(rng.below(characters + 2)));
+        let (count, front, fit) = match std::str::from_utf8(&text) {
+            Ok(whole) => {
+                let (octets, count) = library_fit(whole, Octets(usize::MAX), Characters(usize::MAX));
+                let kept = library_fit(whole, limits.0, limits.1);
+                (Some(count), octets, Fit::Kept(kept.0, kept.1))
+            }
+            Err(fault) => {
+                let front = Octets(fault.valid_up_to());
+                (None, front, Fit::IllFormed(front))
+            }
         };
         same(utf8::characters(&text), count, || hex::text(&text))?;
         same(utf8::longest_well_formed_front(&text), front, || hex::text(&text))?;
+        same(utf8::fit(&text, limits.0, limits.1), fit, || format!("{} {limits:?}", hex::text(&text)))?;
+    }
+    Ok(cases)
+}
+
+/// 02, E1 over every code point: it is one character with an e before it exactly if it is a combining mark,
+/// and with U+0301 after it whatever it is.
+pub fn combining_marks() -> Result<usize, Disagreement> {
+    let mut cases = 0;
+    for code_point in '\0'..=char::MAX {
+        let after_e = if random_text::COMBINING_MARKS.contains(&code_point) { 1 } else { 2 };
+        for (text, count) in [(format!("e{code_point}"), after_e), (format!("{code_point}\u{301}"), 1)] {
+            let input = || hex::text(text.as_bytes());
+            same(utf8::characters(text.as_bytes()), Some(Characters(count)), input)?;
+            cases += 1;
+        }
     }
     Ok(cases)
 }
