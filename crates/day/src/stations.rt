@@ -37,7 +37,7 @@ pub(crate) fn new_room(tab: u8) -> Room {
     match tab {
         0x01 => room_of(4, 0),
         0x02 => room_of(8, 0),
-        0x0A => room_of(16, 16),
+        0x0A => room_of(16, 3),
         _ => room_of(17, 20),
     }
 }
@@ -131,16 +131,16 @@ fn set_up(ads: [u8; 6], key: [u8; 8], table: &[u8]) -> Card {
     answered.card
 }
 
-// Two raw records of 4 and 8 octets, 000186A0 and 0617210A, and two labels, of 16 octets and characters and of 40: Zoé, Résidence du Château.
+// Two raw records of 4 and 8 octets, 000186A0 and 0617210A, and two labels, of 16 octets and characters and of 40: Zoé, with e and U+0301, and Résidence du Château.
 fn old_card() -> Card {
     let table =
-        b"\x01\x04\x00\x04\x00\x01\x86\xA0\x02\x08\x00\x04\x06\x17\x21\x0A\x0A\x10\x10\x04Zo\xC3\xA9\x0B\x28\x28\x16R\xC3\xA9sidence du Ch\xC3\xA2teau";
+        b"\x01\x04\x00\x04\x00\x01\x86\xA0\x02\x08\x00\x04\x06\x17\x21\x0A\x0A\x10\x10\x05Zoe\xCC\x81\x0B\x28\x28\x16R\xC3\xA9sidence du Ch\xC3\xA2teau";
     set_up(FLAT, FLAT_KEY, table)
 }
 
-// The same records, all empty, but that the last label has room for 17 octets and 20 characters.
+// The same records, all empty, but that the labels have room for 16 octets and 3 characters, and for 17 and 20.
 pub(crate) fn new_card() -> Card {
-    let table = b"\x01\x04\x00\x00\x02\x08\x00\x00\x0A\x10\x10\x00\x0B\x11\x14\x00";
+    let table = b"\x01\x04\x00\x00\x02\x08\x00\x00\x0A\x10\x03\x00\x0B\x11\x14\x00";
     set_up(FLAT, FLAT_KEY, table)
 }
 
