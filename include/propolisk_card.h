@@ -26,7 +26,7 @@
  *  0: done, and nothing was refused.
  * A refusal writes nothing to memory but, where the rules of the bus say so, the receiver and the mark of the waiting exchange.
  *
- * Stack, measured in octets below the caller: setup 17,272, step_octet 56,840, step_gap 28,664, step_session_end 28,776, meter_write 33,352,
+ * Stack, measured in octets below the caller: setup 17,304, step_octet 56,920, step_gap 28,664, step_session_end 28,776, meter_write 39,560,
  * read 33,560 (examples/call_stack.c). The card's records are taken out of the memory whole for each call, which is where the stack goes.
  * Nothing is allocated elsewhere.
  *
@@ -70,7 +70,7 @@
  * 21: the key is one of DES's four weak keys, whatever its parity bits (the lowest bit of each octet): 01 eight times, FE eight times, E0 four times
  *     then F1 four times, 1F four times then 0E four times. Under such a key, enciphering twice gives the block back.
  *  7, 8, 9: the first record whose contents are not acceptable has more octets than its limit, is an ill-formed label, or has more characters
- *     than its limit.
+ *     than its limit, a letter and the accents U+0300 to U+036F after it being one (propolisk_label_fit in propolisk_primitives.h).
  * Any refusal leaves the memory as it was. */
 uint8_t propolisk_card_setup(uint8_t *memory, size_t room, const uint8_t *address, size_t address_count, const uint8_t *key,
                              size_t key_count, uint8_t count, const uint8_t entries[PROPOLISK_CARD_ENTRIES]);

@@ -26,7 +26,9 @@ bool propolisk_crc_divisible(const uint8_t *octets, size_t count);
 void propolisk_des_encipher(const uint8_t key[8], uint8_t block[8]);
 void propolisk_des_decipher(const uint8_t key[8], uint8_t block[8]);
 
-/* The longest front part of whole characters of the label within both limits.
+/* The longest front part of whole characters of the label within both limits. A character is a well-formed sequence of RFC 3629 with all sequences for
+ * U+0300 to U+036F that directly follow it, so that a letter and its accents are kept together or not at all; where these start a label, they are one
+ * character. A label of one character that is too long for the limits keeps nothing.
  * 0: *octets and *characters are the kept part's own counts; the part is the first *octets octets of the label.
  * 8: the label is ill-formed; *octets is the offset at which its longest well-formed front part ends, and *characters stays as it was.
  * The label is never changed. */
