@@ -1,6 +1,7 @@
 /* How many octets of stack each call of the card, the tool, the swap file and the primitives needs, measured: the stack below the call is painted, and the deepest
  * octet that the call wrote is looked for. The card has 32 labels of 116 octets; every command that it takes is sent, good and bad. The tool makes
- * every request to it, with the most DATA. 256 is printed for 256 and less. The exit status is 1 where a call needs more than its header says.
+ * every request to it, with the most DATA. 256 is printed for 256 and less. The exit status is 1 where a call needs more than its header says, or DES
+ * more than DES_STACK.
  *
  * With -z now the loader looks for memcpy before the first call, and not on the stack that is measured:
  *
@@ -19,6 +20,9 @@
 
 enum { ENQ = 0x01, REC = 0x03, AUT = 0x05, IB = 0x09, TRF = 0x0C, TRB = 0x0D };
 enum { STACK = 1 << 20, PAINT = 0xA5, NOT_PAINTED = 256, TAB = 31 };
+
+/* DES holds one round key at a time (document 02, E3). An array of sixteen would need more than this. */
+enum { DES_STACK = 864 };
 
 /* Every call that is measured, with the most stack that its header allows. */
 #define CALLS(CALL)                                                                                                                        \
@@ -45,8 +49,8 @@ enum { STACK = 1 << 20, PAINT = 0xA5, NOT_PAINTED = 256, TAB = 31 };
     CALL(swap_add, PROPOLISK_SWAP_STACK)                                                                                                   \
     CALL(crc_key, PROPOLISK_PRIMITIVES_STACK)                                                                                              \
     CALL(crc_divisible, PROPOLISK_PRIMITIVES_STACK)                                                                                        \
-    CALL(des_encipher, PROPOLISK_PRIMITIVES_STACK)                                                                                         \
-    CALL(des_decipher, PROPOLISK_PRIMITIVES_STACK)                                                                                         \
+    CALL(des_encipher, DES_STACK)                                                                                                          \
+    CALL(des_decipher, DES_STACK)                                                                                                          \
     CALL(label_fit, PROPOLISK_PRIMITIVES_STACK)
 #define NAME(name, most) name,
 #define ROW(name, most) {"propolisk_" #name, most, 0},

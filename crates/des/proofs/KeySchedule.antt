@@ -2,7 +2,7 @@
 -- Assumes nothing.
 use mathlib.Core.Path.{_≡_, refl, ap, ap₂, sym, _∙_}
 use mathlib.Core.Bool.{Bool, true, false}
-use mathlib.Core.List.{List, _++_, append-assoc, append-nil}
+use mathlib.Core.List.{List, [], _∷_, _++_, map, reverse, append-assoc, append-nil}
 use Prim.Native.Nat.{ℕ, zero, suc, _+_, _-_, _<_, _≤_}
 use native.Mathlib.Nat.{add-comm, not-suc-le-zero}
 use native.Mathlib.Omega.{arith}
@@ -149,3 +149,16 @@ shift-back key n h k =
     let m = 17 - n in
     let e : 17 - (n - 1) ≡ suc m = omega arith in
     rw e (bothShifted-back (keyHalves key m) (length-keyHalves key m) (getD leftShifts m 0) (shift-le m (omega arith)))
+
+-- ---- which key each round has, both ways
+
+-- the rounds from the first to the last
+abbrev pub inTurn : List ℕ
+inTurn = 1 ∷ 2 ∷ 3 ∷ 4 ∷ 5 ∷ 6 ∷ 7 ∷ 8 ∷ 9 ∷ 10 ∷ 11 ∷ 12 ∷ 13 ∷ 14 ∷ 15 ∷ 16 ∷ []
+
+-- enciphering has K1 in the first round and K16 in the last, deciphering K16 in the first and K1 in the last
+pub keys-forward : map (order false) inTurn ≡ inTurn
+keys-forward = refl
+
+pub keys-backward : map (order true) inTurn ≡ reverse inTurn
+keys-backward = refl

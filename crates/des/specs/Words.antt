@@ -6,7 +6,7 @@ use mathlib.Core.List.{List, [], _∷_}
 use Prim.Native.Nat.{ℕ, _-_, _^_, _<_, _≤_}
 use lib.Dec.{T, leb}
 use lib.ListN.{length}
-use Rattle.des.specs.Des.{bitsOf}
+use Rattle.des.specs.Des.{bitsOf, keyHalves, roundKey}
 
 -- w is the word of n bits that holds the string b, bit 1 the highest
 pub record Word (n : ℕ) (b : List ℕ) (w : ℕ) : Type 0 where
@@ -28,3 +28,13 @@ pub record Selects (n : ℕ) (table : List ℕ) : Type 0 where
 abbrev pub order : Bool → ℕ → ℕ
 order false n = n
 order true n = 17 - n
+
+-- ---- what is held of the key schedule in round n (document 02, E3)
+
+-- C and D of the round
+abbrev pub HalvesHeld : List ℕ → Bool → ℕ → ℕ → Type 0
+HalvesHeld key deciphering n cd = Word 56 (keyHalves key (order deciphering n)) cd
+
+-- the round's own key, the one round key that is held
+abbrev pub KeyHeld : List ℕ → Bool → ℕ → ℕ → Type 0
+KeyHeld key deciphering n k = Word 48 (roundKey key (order deciphering n)) k

@@ -2,12 +2,13 @@
 use crate::tables::PC1;
 use crate::words;
 ghost use mathlib.Core.Path.{_≡_};
+ghost use mathlib.Core.Bool.{Bool};
 ghost use mathlib.Core.List.{List};
 ghost use Prim.Native.Nat.{ℕ, _-_, _^_, _≤_, _<_};
 ghost use lib.ListN.{length};
 ghost use Rattle.des.specs.Tables.{PC2, leftShifts};
-ghost use Rattle.des.specs.Des.{bitsOf, leftShift, bothShifted, keyHalves, roundKey};
-ghost use Rattle.des.specs.Words.{Word, order};
+ghost use Rattle.des.specs.Des.{bitsOf, leftShift, bothShifted, keyHalves};
+ghost use Rattle.des.specs.Words.{Word, HalvesHeld, KeyHeld, order};
 
 // C0 and D0.
 pub(crate) fn key_halves(key: &[u8]) -> u64
@@ -51,15 +52,15 @@ fn shifts_to(shifts: &[u8], deciphering: bool, n: usize) -> u64
 // C and D of round n, from those of the round before.
 pub(crate) fn next_halves(shifts: &[u8], deciphering: bool, n: usize, cd: u64) -> u64
     requires { ⌜ (now shifts ≡ leftShifts) × (0 < n) × (n ≤ 16) × (cd < 2 ^ 56) ⌝ }
-    ensures { λ r. ⌜ ((key : List ℕ) → Word 56 (keyHalves key (order deciphering (n - 1))) cd → Word 56 (keyHalves key (order deciphering n)) r) ⌝ }
+    ensures { λ r. ⌜ ((key : List ℕ) → HalvesHeld key deciphering (n - 1) cd → HalvesHeld key deciphering n r) ⌝ }
 {
     both_shifted(shifts_to(shifts, deciphering, n), cd)
 }
 
-// The round key of C and D in hand.
+// The round key of C and D in hand: those of a round give its own key, both ways.
 pub(crate) fn round_key(pc2: &[u8], cd: u64) -> u64
     requires { ⌜ now pc2 ≡ PC2 ⌝ }
-    ensures { λ r. ⌜ ((key : List ℕ) (n : ℕ) → Word 56 (keyHalves key n) cd → Word 48 (roundKey key n) r) ⌝ }
+    ensures { λ r. ⌜ ((key : List ℕ) (deciphering : Bool) (n : ℕ) → HalvesHeld key deciphering n cd → KeyHeld key deciphering n r) ⌝ }
 {
     words::permuted(pc2, 56, cd)
 }

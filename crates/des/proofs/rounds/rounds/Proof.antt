@@ -4,8 +4,8 @@
 use mathlib.Core.Path.{_≡_, ap₂, sym, _∙_, subst}
 use Prim.Native.Nat.{_+_, _-_, _≤_}
 use native.Mathlib.Omega.{arith}
-use Rattle.des.specs.Des.{bitsOf, keyHalves, roundKey, round, rounds}
-use Rattle.des.specs.Words.{Word, order}
+use Rattle.des.specs.Des.{bitsOf, roundKey, round, rounds}
+use Rattle.des.specs.Words.{Word, HalvesHeld, KeyHeld, order}
 use Rattle.des.proofs.Held.{itself}
 use Rattle.des.proofs.KeySchedule.{keyHalves-start}
 use Rattle.des.proofs.Feistel.{rounds-more}
@@ -15,7 +15,7 @@ use Rattle.des.proofs.rounds.rounds.Tie as tie
 abbrev Inv-loop : tie.InvT-loop
 Inv-loop shifts pc2 e boxes p deciphering key input cd₀ lr₀ n₀ cd lr n =
     (n ≤ 16)
-    × Word 56 (keyHalves key (order deciphering n)) cd
+    × HalvesHeld key deciphering n cd
     × Word 64 (rounds (λ i. roundKey key (order deciphering i)) n (bitsOf 64 input)) lr
 
 abbrev μ-loop : tie.MeasureT-loop
@@ -45,18 +45,20 @@ round-key-requires c κs = c .before .before .before .before .before .before .be
 -- C and D in hand are those of the round's own key
 halves-in-hand : (c : tie.After-next-halves Inv-loop μ-loop)
     → let a = c .before .before .before .before .before .before .before .before .before .before .args in
-    Word 56 (keyHalves (a .key .now) (order (a .deciphering) (c .before .before .loop .n + 1))) (c .next-halves .result)
+    HalvesHeld (a .key .now) (a .deciphering) (c .before .before .loop .n + 1) (c .next-halves .result)
 halves-in-hand c =
     let a = c .before .before .before .before .before .before .before .before .before .before .args in
     let l = c .before .before .loop in
     let e : l .n + 1 - 1 ≡ l .n = omega arith in
-    c .next-halves .ensures (a .key .now) (subst (λ m. Word 56 (keyHalves (a .key .now) (order (a .deciphering) m)) (l .cd)) (sym e) (l .inv .1))
+    c .next-halves .ensures (a .key .now) (subst (λ m. HalvesHeld (a .key .now) (a .deciphering) m (l .cd)) (sym e) (l .inv .1))
 
--- the round key in hand, the only one, is the round's own
+-- document 02, E3: the round key in hand, the only one, is the round's own
 key-in-hand : (c : tie.After-round-key Inv-loop μ-loop)
     → let a = c .before .before .before .before .before .before .before .before .before .before .before .args in
-    Word 48 (roundKey (a .key .now) (order (a .deciphering) (c .before .before .before .loop .n + 1))) (c .round-key .result)
-key-in-hand c = c .round-key .ensures _ _ (halves-in-hand (c .before))
+    KeyHeld (a .key .now) (a .deciphering) (c .before .before .before .loop .n + 1) (c .round-key .result)
+key-in-hand c =
+    let a = c .before .before .before .before .before .before .before .before .before .before .before .args in
+    c .round-key .ensures (a .key .now) (a .deciphering) (c .before .before .before .loop .n + 1) (halves-in-hand (c .before))
 
 round-requires : tie.Need-round-requires Inv-loop μ-loop
 round-requires c κs = let s = c .before .before .before .before .before .before .before .before .before .before .before in (s .pre .2, s .pre .3, s .pre .4, key-in-hand c .small)

@@ -14,7 +14,7 @@ permuted-requires c κs = subst (Selects 56) (sym (c .before .pre)) selects-PC2
 returns : tie.Need-returns
 unfolding PC2 roundKey
 returns c =
-    λ key n held. by-table (c .before .before .pre) (held .same) (c .permuted .ensures)
+    λ key deciphering n held. by-table (c .before .before .pre) (held .same) (c .permuted .ensures)
 
 pub round-key-spec : {M : Type 1} → statement M
 round-key-spec = tie.close (tie.spec permuted-requires returns)
