@@ -3,9 +3,10 @@
  * every request to it, with the most DATA. 256 is printed for 256 and less. The exit status is 1 where a call needs more than its header says, or DES
  * more than DES_STACK.
  *
- * With -z now the loader looks for memcpy before the first call, and not on the stack that is measured:
+ * With -z now the loader looks for memcpy before the first call, and not on the stack that is measured. With -O1 the program's own frames, which
+ * count as the call's, are small:
  *
- *   cc -pthread -Wl,-z,now -Iinclude examples/call_stack.c -Ltarget/staticlib -ltool_exports -lswap_exports -lcard_exports -lframe_exports \
+ *   cc -O1 -pthread -Wl,-z,now -Iinclude examples/call_stack.c -Ltarget/staticlib -ltool_exports -lswap_exports -lcard_exports -lframe_exports \
  *      -lprimitive_exports -o target/call_stack
  */
 #include "propolisk_card.h"
@@ -21,10 +22,10 @@
 enum { ENQ = 0x01, REC = 0x03, AUT = 0x05, IB = 0x09, TRF = 0x0C, TRB = 0x0D };
 enum { STACK = 1 << 20, PAINT = 0xA5, NOT_PAINTED = 256, TAB = 31 };
 
-/* DES holds one round key at a time (document 02, E3). An array of sixteen would need more than this. */
+/* DES holds one round key at a time (document 02, E3). With an array of sixteen a block needed 872 octets. */
 enum { DES_STACK = 864 };
 
-/* Every call that is measured, with the most stack that its header allows. */
+/* Every call that is measured, with the most stack that it may need: what its header says, and of DES less. */
 #define CALLS(CALL)                                                                                                                        \
     CALL(card_setup, PROPOLISK_CARD_STACK)                                                                                                 \
     CALL(card_step_octet, PROPOLISK_CARD_STACK)                                                                                            \
