@@ -8,7 +8,7 @@ use native.Mathlib.Nat.{zero-add, suc-add, pow-suc}
 use native.Mathlib.Omega.{arith}
 use lib.Bits.{bitXor, differ, xor-step, block-half, block-odd}
 use lib.Dec.{eqb}
-use lib.ListN.{length, replicate}
+use lib.ListN.{length, replicate, length-append}
 use Rattle.crc.specs.Polynomial.{plus}
 use Rattle.crc.specs.Transmission.{bits, number, transmitted}
 
@@ -104,6 +104,11 @@ pub transmitted-append : (s t : List ℕ) → transmitted (s ++ t) ≡ transmitt
 unfolding transmitted
 transmitted-append [] t = refl
 transmitted-append (o ∷ s) t = ap (λ (p : List Bool). bits 8 o ++ p) (transmitted-append s t) ∙ sym (append-assoc (bits 8 o) (transmitted s) (transmitted t))
+
+pub length-transmitted : (s : List ℕ) → length (transmitted s) ≡ length s * 8
+unfolding transmitted
+length-transmitted [] = refl
+length-transmitted (o ∷ s) = length-append (bits 8 o) (transmitted s) ∙ omega (arith, length-bits 8 o, length-transmitted s)
 
 -- sixteen bits
 pub number-16 : (p : List Bool) → length p ≡ 16 → number p < 65536

@@ -1,14 +1,14 @@
 -- Long division by X^m + e(X), where e has m coefficients: the steps touch the front alone, are additive and never lengthen the list.
 -- Assumes nothing.
-use mathlib.Core.Path.{_≡_, refl, sym, ap, ap₂, _∙_}
+use mathlib.Core.Path.{_≡_, refl, sym, ap, _∙_}
 use mathlib.Core.Bool.{Bool, true, false, xor}
 use mathlib.Core.List.{List, [], _∷_, _++_}
 use Prim.Native.Nat.{ℕ, zero, suc, _+_, _≤_, _<_}
 use native.Mathlib.Nat.{not-suc-le-zero, le-of-suc-le-suc, zero-add, suc-add}
 use native.Mathlib.Omega.{arith}
-use lib.ListN.{length, replicate, length-append, length-replicate}
+use lib.ListN.{length, replicate}
 use Rattle.crc.specs.Polynomial.{plus, step, reduce}
-use Rattle.crc.proofs.Sum.{plus-comm, plus-assoc, plus-left-comm, plus-twice, plus-zeros, length-plus, plus-append, plus-front}
+use Rattle.crc.proofs.Sum.{plus-assoc, plus-left-comm, plus-twice, length-plus, plus-front}
 
 module _ (e : List Bool) where
   pub length-step : (a : List Bool) → length e < length a → suc (length (step (true ∷ e) a)) ≡ length a
@@ -51,7 +51,7 @@ module _ (e : List Bool) where
       ∙ reduce-front n (step (true ∷ e) a) b (let l : suc (length (step (true ∷ e) a)) ≡ length a = length-step a (omega arith) in omega arith)
 
   -- the steps are additive
-  reduce-plus : (n : ℕ) (a b : List Bool) → n + length e ≤ length a → length a ≡ length b
+  pub reduce-plus : (n : ℕ) (a b : List Bool) → n + length e ≤ length a → length a ≡ length b
       → reduce (true ∷ e) n (plus a b) ≡ plus (reduce (true ∷ e) n a) (reduce (true ∷ e) n b)
   unfolding reduce
   reduce-plus zero a b h q = refl
@@ -62,7 +62,7 @@ module _ (e : List Bool) where
       ∙ reduce-plus n (step (true ∷ e) a) (step (true ∷ e) b) (omega arith) (omega arith)
 
   -- places that hold 0 fall away
-  reduce-zeros : (n : ℕ) (a : List Bool) → reduce (true ∷ e) n (replicate n false ++ a) ≡ a
+  pub reduce-zeros : (n : ℕ) (a : List Bool) → reduce (true ∷ e) n (replicate n false ++ a) ≡ a
   unfolding reduce step
   reduce-zeros zero a = refl
   reduce-zeros (suc n) a = reduce-zeros n a
@@ -72,18 +72,3 @@ module _ (e : List Bool) where
   unfolding reduce
   reduce-add zero k a = ap (λ (m : ℕ). reduce (true ∷ e) m a) (zero-add k)
   reduce-add (suc n) k a = ap (λ (m : ℕ). reduce (true ∷ e) m a) (suc-add n k) ∙ reduce-add n k (step (true ∷ e) a)
-
-  -- A X^m + Q with Q of m coefficients leaves what A X^m leaves, plus Q
-  pub reduce-last : (a q : List Bool) → length q ≡ length e
-      → reduce (true ∷ e) (length a) (a ++ q) ≡ plus (reduce (true ∷ e) (length a) (a ++ replicate (length e) false)) q
-  reduce-last a q l =
-      ap (reduce (true ∷ e) (length a)) (sym split)
-      ∙ reduce-plus (length a) (a ++ replicate (length e) false) (replicate (length a) false ++ q)
-      (simp (length-append, length-replicate) (omega arith)) (simp (length-append, length-replicate) (omega arith))
-      ∙ ap (plus (reduce (true ∷ e) (length a) (a ++ replicate (length e) false))) (reduce-zeros (length a) q)
-    where
-      split : plus (a ++ replicate (length e) false) (replicate (length a) false ++ q) ≡ a ++ q
-      split =
-          plus-append a (replicate (length a) false) (replicate (length e) false) q (sym (length-replicate (length a) false))
-          ∙ ap₂ {C = List Bool} _++_ (plus-comm a (replicate (length a) false) ∙ plus-zeros (length a) a (omega arith))
-          (plus-zeros (length e) q (omega arith))

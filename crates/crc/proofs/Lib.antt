@@ -5,5 +5,5 @@ pub mod Quotient
 mod Bits
 pub mod CheckKey
 pub mod Receiver
-mod Table
+mod Represented
 mod Vectors

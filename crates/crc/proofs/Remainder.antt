@@ -1,16 +1,16 @@
--- The remainder by D(X): it depends on the last 16 places by their sum, and X times a polynomial is divisible by D(X) exactly if the polynomial is.
+-- The remainder by D(X): it is additive, and X times a polynomial is divisible by D(X) exactly if the polynomial is.
 -- Assumes nothing.
-use mathlib.Core.Path.{_≡_, refl, sym, ap, _∙_}
+use mathlib.Core.Path.{_≡_, refl, sym, ap, ap₂, _∙_}
 use mathlib.Core.Bool.{Bool, true, false, not, xor, _&&_, and-true, and-false}
 use mathlib.Core.List.{List, [], _∷_, _++_, append-assoc, append-nil}
 use Prim.Native.Nat.{ℕ, zero, suc, _+_, _-_, _≤_, _<_}
 use native.Mathlib.Decide.{decLt}
 use native.Mathlib.Omega.{arith}
-use lib.ListN.{length, take, drop, replicate, length-append}
+use lib.ListN.{length, take, drop, replicate, length-append, length-replicate}
 use Rattle.crc.specs.Polynomial.{plus, step, reduce}
 use Rattle.crc.specs.AnnexE.{divisor, remainder, isZero}
-use Rattle.crc.proofs.Sum.{plus-append}
-use Rattle.crc.proofs.Division.{length-reduce, reduce-front, reduce-add, reduce-last}
+use Rattle.crc.proofs.Sum.{plus-comm, plus-zeros, length-plus, plus-append}
+use Rattle.crc.proofs.Division.{length-reduce, reduce-front, reduce-plus, reduce-zeros, reduce-add}
 
 -- the coefficients of D(X) below X^16
 abbrev pub lower : List Bool
@@ -30,11 +30,33 @@ length-remainder a h =
     let l : (length a - 16) + length (reduce divisor (length a - 16) a) ≡ length a = length-reduce lower (length a - 16) a (omega arith) in
     ap length (remainder-steps (length a - 16) a (omega arith)) ∙ omega arith
 
--- A(X) X^16 + Q(X), where Q(X) has 16 coefficients
-pub remainder-last : (a q : List Bool) → length q ≡ 16 → remainder (a ++ q) ≡ plus (remainder (a ++ replicate 16 false)) q
-remainder-last a q l =
-    remainder-steps (length a) (a ++ q) (rw length-append (omega arith)) ∙ reduce-last lower a q l
-    ∙ ap (λ (p : List Bool). plus p q) (sym (remainder-steps (length a) (a ++ replicate 16 false) (rw length-append (omega arith))))
+-- leading zeros change nothing
+remainder-zeros : (n : ℕ) (a : List Bool) → 16 ≤ length a → remainder (replicate n false ++ a) ≡ remainder a
+remainder-zeros n a h =
+    remainder-steps (n + (length a - 16)) (replicate n false ++ a) (simp (length-append, length-replicate) (omega arith))
+    ∙ reduce-add lower n (length a - 16) (replicate n false ++ a) ∙ ap (reduce divisor (length a - 16)) (reduce-zeros lower n a)
+    ∙ sym (remainder-steps (length a - 16) a (omega arith))
+
+-- the remainder is additive
+pub remainder-plus : (a b : List Bool) → 16 ≤ length a → length a ≡ length b → remainder (plus a b) ≡ plus (remainder a) (remainder b)
+remainder-plus a b h l =
+    let n : ℕ = length a - 16 in
+    remainder-steps n (plus a b) (length-plus a b (omega arith) ∙ omega arith) ∙ reduce-plus lower n a b (omega arith) l
+    ∙ sym (ap₂ plus (remainder-steps n a (omega arith)) (remainder-steps n b (omega arith)))
+
+-- A(X) X^n + Q(X), where Q(X) has n coefficients
+pub remainder-sum : (n : ℕ) (a q : List Bool) → length q ≡ n → 16 ≤ n → remainder (a ++ q) ≡ plus (remainder (a ++ replicate n false)) (remainder q)
+remainder-sum n a q l h =
+    ap remainder (sym split)
+    ∙ remainder-plus (a ++ replicate n false) (replicate (length a) false ++ q) (simp (length-append, length-replicate) (omega arith))
+    (simp (length-append, length-replicate) (omega arith))
+    ∙ ap (plus (remainder (a ++ replicate n false))) (remainder-zeros (length a) q (omega arith))
+  where
+    split : plus (a ++ replicate n false) (replicate (length a) false ++ q) ≡ a ++ q
+    split =
+        plus-append a (replicate (length a) false) (replicate n false) q (sym (length-replicate (length a) false))
+        ∙ ap₂ {C = List Bool} _++_ (plus-comm a (replicate (length a) false) ∙ plus-zeros (length a) a (omega arith))
+        (plus-zeros n q (omega arith))
 
 -- more places at the end: the division goes on from the remainder so far
 pub remainder-more : (a b : List Bool) → 16 ≤ length a → remainder (a ++ b) ≡ remainder (remainder a ++ b)

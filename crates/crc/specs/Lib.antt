@@ -1,4 +1,4 @@
 pub mod Polynomial
 pub mod Transmission
 pub mod AnnexE
-pub mod Table
+pub mod Residues

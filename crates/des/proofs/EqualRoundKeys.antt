@@ -11,8 +11,8 @@ use lib.Seq.{ext-getD, take-at, drop-at}
 use Rattle.des.specs.Tables.{PC2, leftShifts}
 use Rattle.des.specs.Des.{permuted, leftShift, bothShifted, keyHalves, roundKey}
 use Rattle.des.specs.Rows.{count}
-use Rattle.des.proofs.Tests.{at}
-use Rattle.des.proofs.Permutations.{length-permuted, getD-permuted, permuted-append, permuted-twice, named-same, selects-PC2}
+use Rattle.computed.proofs.Tests.{at}
+use Rattle.des.proofs.Permutations.{length-permuted, getD-permuted, permuted-append, permuted-twice, named-same}
 use Rattle.des.proofs.KeySchedule.{length-leftShift, first-long, second-long, length-bothShifted, bothShifted-add, bothShifted-none, length-keyHalves, total, total-le, keyHalves-total, keyHalves-around}
 
 -- ---- C and D that a left shift leaves as they are
@@ -88,8 +88,8 @@ PC2-before : List ℕ
 PC2-before = permuted PC2 (bothShifted 2 (upTo 56))
 
 choice-after-two : (cd : List ℕ) → length cd ≡ 56 → permuted PC2 (bothShifted 2 cd) ≡ permuted PC2-before cd
-unfolding PC2-before bothShifted leftShift
-choice-after-two cd long = ap (permuted PC2) (two-shifted cd long) ∙ permuted-twice PC2 (bothShifted 2 (upTo 56)) cd (selects-PC2 .inside)
+unfolding PC2-before bothShifted leftShift PC2
+choice-after-two cd long = ap (permuted PC2) (two-shifted cd long) ∙ permuted-twice PC2 (bothShifted 2 (upTo 56)) cd tt
 
 -- PC-2 leaves out eight bits, and two left shifts later it selects those: together all 56 are named
 all-named : (i : ℕ) → i < 56 → 0 < count (suc i) (PC2 ++ PC2-before)

@@ -1,15 +1,18 @@
 -- The rounds on LR: lengths, bits, and that a round is taken back by the same round on R'L'.
 -- Assumes nothing.
-use mathlib.Core.Path.{_≡_, refl, ap, ap₂, _∙_}
+use mathlib.Core.Path.{_≡_, refl, ap, ap₂, sym, _∙_}
 use mathlib.Core.List.{List, [], _∷_, _++_, zipWith}
-use Prim.Native.Nat.{ℕ, zero, suc, _+_, _-_, _%_, _<_, _≤_}
+use Prim.Native.Nat.{ℕ, zero, suc, _+_, _-_, _*_, _/_, _%_, _^_, _<_, _≤_}
 use native.Mathlib.Numerals.{add-one}
 use native.Mathlib.Omega.{arith}
+use lib.Bits.{bitXor}
 use lib.ListN.{length, take, drop, length-append, length-drop, take-append-drop}
 use lib.Seq.{take-at, drop-at, length-take-le}
 use Rattle.des.specs.Tables.{P}
-use Rattle.des.specs.Des.{_⊕_, f, round, rounds, exchanged}
-use Rattle.des.proofs.Strings.{AreBits, areBits-append, areBits-take, areBits-drop, areBits-xor}
+use Rattle.des.specs.Des.{bitsOf, _⊕_, f, round, rounds, exchanged}
+use Rattle.des.specs.Words.{Word}
+use Rattle.des.proofs.Strings.{length-bitsOf, AreBits, areBits-append, areBits-take, areBits-drop, areBits-xor}
+use Rattle.des.proofs.Held.{itself, joined, added, upper, lower}
 use Rattle.des.proofs.Permutations.{length-permuted}
 
 -- ---- addition modulo 2
@@ -74,6 +77,28 @@ round-back k b h bs =
     ap (round k) (exchanged-parts r x (s .second))
     ∙ round-parts k x r x32
     ∙ ap (λ (y : List ℕ). r ++ y) (xor-back l (f r k) (omega (arith, s .first, length-f r k)) (areBits-take 32 b bs))
+
+-- a block in two words, its halves
+pub record HeldApart (b : List ℕ) (l r : ℕ) : Type 0 where
+  pub left : Word 32 (take 32 b) l
+  pub right : Word 32 (drop 32 b) r
+
+-- a round on words: R goes to the left, and L is added to f of R and the key
+pub round-apart : (k b : List ℕ) (l r v : ℕ) → HeldApart b l r → Word 32 (f (drop 32 b) k) v → HeldApart (round k b) r (bitXor l v)
+unfolding round
+round-apart k b l r v h w =
+    let n : length (drop 32 b) ≡ 32 = ap length (sym (h .right .same)) ∙ length-bitsOf 32 r in
+    let x = take 32 b ⊕ f (drop 32 b) k in
+    record {
+      left = rw (take-at (drop 32 b) x 32 n) (h .right);
+      right = rw (drop-at (drop 32 b) x 32 n) (added (h .left) w);
+    }
+
+pub apart : (w : ℕ) → w < 2 ^ 64 → HeldApart (bitsOf 64 w) (w / 2 ^ 32) (w % 2 ^ 32)
+apart w h = let x = itself 64 w h in record { left = upper 32 32 x; right = lower 32 32 x }
+
+pub together : (b : List ℕ) (l r : ℕ) → HeldApart b l r → Word 64 b (l * 2 ^ 32 + r)
+together b l r h = rw (take-append-drop 32 b) at (joined (h .left) (h .right))
 
 -- ---- the halves exchanged
 

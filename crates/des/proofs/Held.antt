@@ -1,19 +1,19 @@
 -- Words that hold strings of bits: one after the other, in parts, and added bit by bit.
 -- Assumes nothing.
-use mathlib.Core.Path.{_≡_, refl, ap, ap₂, sym, _∙_, subst}
+use mathlib.Core.Path.{_≡_, refl, ap, ap₂, sym, _∙_}
 use mathlib.Core.List.{List, [], _∷_, _++_, append-nil, flatMap}
 use Prim.Native.Nat.{ℕ, _+_, _-_, _*_, _/_, _%_, _^_, _<_, _≤_}
-use native.Mathlib.Nat.{add-zero, mul-mod-left, mod-lt, lt-of-lt-of-le, zero-add}
+use native.Mathlib.Nat.{mod-lt, lt-of-lt-of-le, zero-add}
 use native.Mathlib.Numerals.{add-one}
 use native.Mathlib.Omega.{arith}
 use lib.Arith.{digits-lt}
 use lib.Bits.{bitXor, xor-lt}
-use lib.ListN.{length, getD, take, drop}
-use lib.Pow.{pow-add, pow-pos, pow-mono, shr-lt, shl-shr, mod-pow-add}
-use lib.Seq.{take-suc}
+use lib.ListN.{length, getD, take, drop, length-drop}
+use lib.Pow.{pow-add, pow-pos, pow-mono, shr-lt}
+use lib.Seq.{take-suc, drop-append-le, take-append-add}
 use Rattle.des.specs.Des.{bitsOf, bits, _⊕_, leftShift}
 use Rattle.des.specs.Words.{Word}
-use Rattle.des.proofs.Strings.{bits-append, bitsOf-join, bitsOf-mod, take-bitsOf, drop-bitsOf, bitsOf-xor}
+use Rattle.des.proofs.Strings.{part-bitsOf, bits-append, bitsOf-join, bitsOf-mod, take-bitsOf, drop-bitsOf, bitsOf-xor}
 
 -- a number below 2 ^ n holds its own n bits
 pub itself : (n w : ℕ) → w < 2 ^ n → Word n (bitsOf n w) w
@@ -44,11 +44,6 @@ pub added : {n : ℕ} {a b : List ℕ} {x y : ℕ} → Word n a x → Word n b y
 added {n} {a} {b} {x} {y} p q =
     record { small = xor-lt n x y (p .small) (q .small); same = bitsOf-xor n x y ∙ ap₂ (λ (c d : List ℕ). c ⊕ d) (p .same) (q .same) }
 
--- a single bit
-pub single : (b : ℕ) → b < 2 → Word 1 (b ∷ []) b
-unfolding bitsOf
-single b h = record { small = h; same = let e : b / 2 ^ 0 % 2 ≡ b = omega arith in ap (λ (x : ℕ). x ∷ []) e }
-
 -- a word of at most m bits
 pub fits : (m : ℕ) {n : ℕ} {b : List ℕ} {w : ℕ} → Word n b w → n ≤ m → w < 2 ^ m
 fits m {n} p h = lt-of-lt-of-le (p .small) (pow-mono {i = n} {j = m} h)
@@ -64,17 +59,21 @@ octet-more o i acc h l p =
     ap bits (ap (λ (n : ℕ). take n o) (add-one i) ∙ take-suc o i 0 h) ∙ bits-append (take i o) (x ∷ []) ∙ ap (λ (b : List ℕ). bits (take i o) ++ b) (append-nil (bitsOf 8 x)) in
     rw (← e, more) (joined p (itself 8 x l))
 
--- a half of 28 bits after s left shifts
-pub left-shifted : (s c : ℕ) → s ≤ 28 → c < 2 ^ 28 → Word 28 (leftShift s (bitsOf 28 c)) (c * 2 ^ s % 2 ^ 28 + c / 2 ^ (28 - s))
+-- 28 bits of a half that is held twice are the half after s left shifts
+pub shifted-half : (b : List ℕ) (s c : ℕ) → length b ≡ 28 → s ≤ 28 → Word 56 (b ++ b) c → Word 28 (leftShift s b) (c / 2 ^ (28 - s) % 2 ^ 28)
 unfolding leftShift
-left-shifted s c h l =
+shifted-half b s c n h p =
     let j = 28 - s in
-    let e : s + j ≡ 28 = omega arith in
-    let g : j + s ≡ 28 = omega arith in
-    let high : c * 2 ^ s % 2 ^ 28 ≡ c % 2 ^ j * 2 ^ s =
-    ap (λ (n : ℕ). c * 2 ^ s % 2 ^ n) (sym g)
-    ∙ mod-pow-add (c * 2 ^ s) j s
-    ∙ ap₂ (λ (x y : ℕ). x % 2 ^ j * 2 ^ s + y) (shl-shr c s) (mul-mod-left c (2 ^ s))
-    ∙ add-zero (c % 2 ^ j * 2 ^ s) in
-    let w : Word (s + j) (bitsOf 28 c) c = rw e (itself 28 c l) in
-    rw high (subst (λ (n : ℕ). Word n (drop s (bitsOf 28 c) ++ take s (bitsOf 28 c)) (c % 2 ^ j * 2 ^ s + c / 2 ^ j)) g (joined (lower s j w) (upper s j w)))
+    let e : s + (28 + j) ≡ 56 = omega arith in
+    let l : length (drop s b) + s ≡ 28 = simp length-drop (omega arith) in
+    record {
+      small = mod-lt (c / 2 ^ j) (pow-pos 28);
+      same =
+          bitsOf-mod 28 0 (c / 2 ^ j)
+          ∙ sym (part-bitsOf s 28 j c)
+          ∙ ap (λ (m : ℕ). take 28 (drop s (bitsOf m c))) e
+          ∙ ap (λ (x : List ℕ). take 28 (drop s x)) (p .same)
+          ∙ ap (take 28) (drop-append-le s b b (omega arith))
+          ∙ ap (λ (m : ℕ). take m (drop s b ++ b)) (sym l)
+          ∙ take-append-add (drop s b) b s;
+    }

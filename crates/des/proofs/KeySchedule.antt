@@ -1,18 +1,18 @@
--- The key schedule: left shifts add up, those of the sixteen rounds make 28, and a shift by s is taken back by one by 28 - s.
+-- The key schedule: left shifts add up, so C and D of each round are C0 and D0 after the shifts so far, and those of the sixteen rounds make 28.
 -- Assumes nothing.
 use mathlib.Core.Path.{_≡_, refl, ap, ap₂, sym, _∙_}
-use mathlib.Core.Bool.{Bool, true, false}
+use mathlib.Core.Bool.{true, false}
 use mathlib.Core.List.{List, [], _∷_, _++_, map, reverse, append-assoc, append-nil}
 use Prim.Native.Nat.{ℕ, zero, suc, _+_, _-_, _<_, _≤_}
-use native.Mathlib.Nat.{add-comm, not-suc-le-zero}
+use native.Mathlib.Nat.{add-comm}
 use native.Mathlib.Omega.{arith}
 use lib.Dec.{leb, leb→le}
 use lib.ListN.{length, getD, take, drop, length-append, length-drop, take-append-drop}
 use lib.Seq.{drop-append-le, take-append-le, drop-drop, take-add, take-length, drop-length, take-at, drop-at, length-take-le}
 use Rattle.des.specs.Tables.{leftShifts, PC1}
 use Rattle.des.specs.Des.{bits, leftShift, bothShifted, keyHalves}
-use Rattle.des.specs.Words.{order}
-use Rattle.des.proofs.Tests.{at}
+use Rattle.des.specs.Words.{order, shiftsUpTo}
+use Rattle.computed.proofs.Tests.{at, equal-at}
 use Rattle.des.proofs.Permutations.{length-permuted}
 
 -- ---- left shifts of one string
@@ -77,11 +77,6 @@ module _ (cd : List ℕ) (long : length cd ≡ 56) where
   bothShifted-none =
       ap₂ (λ (x y : List ℕ). x ++ y) (leftShift-none (take 28 cd)) (leftShift-none (drop 28 cd)) ∙ take-append-drop 28 cd
 
-  pub bothShifted-back : (s : ℕ) → s ≤ 28 → bothShifted (28 - s) (bothShifted s cd) ≡ cd
-  bothShifted-back s h =
-      let e : s + (28 - s) ≡ 28 = omega arith in
-      bothShifted-add (28 - s) s (omega arith) ∙ ap (λ (n : ℕ). bothShifted n cd) e ∙ bothShifted-all
-
 -- ---- C and D of each round
 
 pub length-keyHalves : (key : List ℕ) (n : ℕ) → length (keyHalves key n) ≡ 56
@@ -111,44 +106,19 @@ unfolding keyHalves leftShifts
 keyHalves-around key =
     sym (keyHalves-total key 16 (omega arith) ∙ bothShifted-all (keyHalves key 0) (length-keyHalves key 0))
 
--- C17 D17 is C0 D0 too, since no shift belongs to a seventeenth round
-keyHalves-last : (key : List ℕ) → keyHalves key 0 ≡ keyHalves key 17
-unfolding keyHalves leftShifts
-keyHalves-last key = keyHalves-around key ∙ sym (bothShifted-none (keyHalves key 16) (length-keyHalves key 16))
+-- the code's table of the sums
+pub length-shiftsUpTo : length shiftsUpTo ≡ 17
+length-shiftsUpTo = refl
 
--- ---- the halves in hand, from one round to the next
-
--- the halves before the first round
-pub keyHalves-start : (key : List ℕ) (deciphering : Bool) → keyHalves key 0 ≡ keyHalves key (order deciphering 0)
-keyHalves-start key false = refl
-keyHalves-start key true = keyHalves-last key
-
-pub shift-forward : (key : List ℕ) (n : ℕ) → 0 < n → bothShifted (getD leftShifts (n - 1) 0) (keyHalves key (n - 1)) ≡ keyHalves key n
-unfolding keyHalves
-shift-forward key zero h = absurd (not-suc-le-zero h)
-shift-forward key (suc n) h = let e : suc n - 1 ≡ n = omega arith in rw e
-
-pub shift-back-first : (key : List ℕ) → bothShifted 0 (keyHalves key 17) ≡ keyHalves key 16
-unfolding keyHalves leftShifts
-shift-back-first key =
-    bothShifted-none (keyHalves key 17) (length-keyHalves key 17) ∙ bothShifted-none (keyHalves key 16) (length-keyHalves key 16)
-
-pub length-leftShifts : length leftShifts ≡ 16
+pub total-at : (n : ℕ) → n < 17 → getD shiftsUpTo n 0 ≡ total n
 unfolding leftShifts
-length-leftShifts = refl
+total-at = equal-at 17 (λ n. getD shiftsUpTo n 0) total tt
 
--- each entry of the schedule is at most 28
-pub shift-le : (i : ℕ) → i < 16 → getD leftShifts i 0 ≤ 28
-unfolding leftShifts
-shift-le i h = leb→le (getD leftShifts i 0) 28 (at 16 (λ i. leb (getD leftShifts i 0) 28) tt i h)
-
-pub shift-back : (key : List ℕ) (n : ℕ) → 1 < n → n ≤ 16
-    → bothShifted (28 - getD leftShifts (17 - n) 0) (keyHalves key (17 - (n - 1))) ≡ keyHalves key (17 - n)
-unfolding keyHalves
-shift-back key n h k =
-    let m = 17 - n in
-    let e : 17 - (n - 1) ≡ suc m = omega arith in
-    rw e (bothShifted-back (keyHalves key m) (length-keyHalves key m) (getD leftShifts m 0) (shift-le m (omega arith)))
+-- left shifts of C0 and D0 by the table's entry lead to C and D of the round
+pub keyHalves-at : (n r : ℕ) → n < 17 → r ≡ getD shiftsUpTo n 0 → (r ≤ 28) × ((key : List ℕ) → bothShifted r (keyHalves key 0) ≡ keyHalves key n)
+keyHalves-at n r h e =
+    let q = e ∙ total-at n h in
+    (omega (arith, total-le n h), λ key. ap (λ (s : ℕ). bothShifted s (keyHalves key 0)) q ∙ sym (keyHalves-total key n h))
 
 -- ---- which key each round has, both ways
 

@@ -13,7 +13,7 @@ use lib.Seq.{ext-getD, getD-append-add}
 use Rattle.des.specs.Tables.{PC1, PC2, IP, inverseIP, leftShifts}
 use Rattle.des.specs.Des.{bitsOf, number, bits, octets, permuted, exchanged, bothShifted, keyHalves, roundKey, computation, encipher, decipher}
 use Rattle.des.specs.Rows.{count}
-use Rattle.des.proofs.Tests.{below, at}
+use Rattle.computed.proofs.Tests.{below, at}
 use Rattle.des.proofs.Strings.{length-bitsOf, getD-bitsOf, number-bitsOf}
 use Rattle.des.proofs.Permutations.{length-permuted, getD-permuted, named-same}
 use Rattle.des.proofs.Feistel.{rounds-same}

@@ -3,21 +3,17 @@
 use mathlib.Core.Path.{_≡_, refl, ap, ap₂, sym, _∙_, subst}
 use mathlib.Core.Bool.{Bool, true, false, _&&_}
 use mathlib.Core.List.{List, [], _∷_, _++_}
-use Prim.Native.Nat.{ℕ, zero, suc, _+_, _-_, _*_, _/_, _%_, _^_, _<_, _≤_}
+use Prim.Native.Nat.{ℕ, zero, suc, _-_, _<_, _≤_}
 use native.Mathlib.Nat.{not-suc-le-zero, le-of-suc-le-suc}
-use native.Mathlib.Numerals.{add-one}
 use native.Mathlib.Omega.{arith}
-use lib.Dec.{T, leb, ltb, eqb, leb→le, ltb→lt, eqb→eq, lit≤}
-use lib.ListN.{length, getD, take, drop, length-map}
-use lib.Seq.{ext-getD, take-suc}
+use lib.Dec.{T, leb, ltb, eqb, leb→le, ltb→lt, eqb→eq}
+use lib.ListN.{length, getD, drop, length-map}
+use lib.Seq.{ext-getD}
 use borrow.Author.Tests.{eqb-true}
-use Rattle.des.specs.Tables.{IP, inverseIP, E, P, PC1, PC2}
-use Rattle.des.specs.Des.{bitsOf, permuted}
+use Rattle.des.specs.Tables.{IP, inverseIP}
+use Rattle.des.specs.Des.{permuted}
 use Rattle.des.specs.Rows.{oneMore, count}
-use Rattle.des.specs.Words.{Word, entriesWithin, Selects}
-use Rattle.des.proofs.Strings.{AreBits, getD-bitsOf}
-use Rattle.des.proofs.Held.{joined, single}
-use Rattle.des.proofs.Tests.{below, at, left, right}
+use Rattle.computed.proofs.Tests.{below, at, first-of, second-of}
 
 pub length-permuted : (t b : List ℕ) → length (permuted t b) ≡ length t
 unfolding permuted
@@ -48,13 +44,18 @@ named-same (x ∷ t) a b e i h = go (eqb (suc i) x) refl h (named-same t a b (ap
         subst (λ (j : ℕ). getD a j 0 ≡ getD b j 0) n (ap (λ (s : List ℕ). getD s 0 0) e)
     go false p l later = later l
 
+-- every entry of a table is the number of a bit of a string of n bits
+abbrev pub entriesWithin : ℕ → List ℕ → Bool
+entriesWithin n [] = true
+entriesWithin n (i ∷ is) = (leb 1 i && leb i n) && entriesWithin n is
+
 -- every entry of a table that is within n is from 1 to n
 pub within-at : (n : ℕ) (t : List ℕ) → T (entriesWithin n t) → (i : ℕ) → i < length t → (1 ≤ getD t i 0) × (getD t i 0 ≤ n)
 within-at n [] h i l = absurd (not-suc-le-zero l)
 within-at n (x ∷ t) h zero l =
-    let e = left (leb 1 x && leb x n) (entriesWithin n t) h in
-    (leb→le 1 x (left (leb 1 x) (leb x n) e), leb→le x n (right (leb 1 x) (leb x n) e))
-within-at n (x ∷ t) h (suc i) l = within-at n t (right (leb 1 x && leb x n) (entriesWithin n t) h) i (le-of-suc-le-suc l)
+    let e = first-of (leb 1 x && leb x n) (entriesWithin n t) h in
+    (leb→le 1 x (first-of (leb 1 x) (leb x n) e), leb→le x n (second-of (leb 1 x) (leb x n) e))
+within-at n (x ∷ t) h (suc i) l = within-at n t (second-of (leb 1 x && leb x n) (entriesWithin n t) h) i (le-of-suc-le-suc l)
 
 -- to select by u and then by t is to select by the entries of u that t selects
 pub permuted-twice : (t u b : List ℕ) → T (entriesWithin (length u) t) → permuted t (permuted u b) ≡ permuted (permuted t u) b
@@ -63,20 +64,7 @@ permuted-twice [] u b h = refl
 permuted-twice (x ∷ t) u b h =
     let w = within-at (length u) (x ∷ t) h 0 (omega arith) in
     ap₂ (λ (y : ℕ) (l : List ℕ). y ∷ l) (getD-permuted u b (x - 1) (omega arith))
-    (permuted-twice t u b (right (leb 1 x && leb x (length u)) (entriesWithin (length u) t) h))
-
--- the bit that an entry names, in a word of n bits
-pub named : (n w x : ℕ) → 1 ≤ x → x ≤ n → w / 2 ^ (n - x) % 2 ≡ getD (bitsOf n w) (x - 1) 0
-named n w x h k = let e : n - suc (x - 1) ≡ n - x = omega arith in sym (getD-bitsOf n w (x - 1) (omega arith) ∙ ap (λ (j : ℕ). w / 2 ^ j % 2) e)
-
--- one entry more of the table
-pub permuted-more : (t b : List ℕ) (i acc : ℕ) → i < length t → AreBits b → Word i (permuted (take i t) b) acc
-    → Word (i + 1) (permuted (take (i + 1) t) b) (acc * 2 + getD b (getD t i 0 - 1) 0)
-unfolding permuted
-permuted-more t b i acc h bs p =
-    subst (λ (l : List ℕ). Word (i + 1) l (acc * 2 + getD b (getD t i 0 - 1) 0))
-    (sym (ap (λ (l : List ℕ). permuted l b) (ap (λ (n : ℕ). take n t) (add-one i) ∙ take-suc t i 0 h) ∙ permuted-append (take i t) (getD t i 0 ∷ []) b))
-    (joined p (single (getD b (getD t i 0 - 1) 0) (bs (getD t i 0 - 1))))
+    (permuted-twice t u b (second-of (leb 1 x && leb x (length u)) (entriesWithin (length u) t) h))
 
 -- at each place of u, the entry of t that it names leads back to that place
 unfoldable pub undoes : List ℕ → List ℕ → Bool
@@ -91,8 +79,8 @@ undone u t b h l =
     let m : i < length u = omega (arith, length-permuted u (permuted t b)) in
     let test = at (length u) (λ i. ltb (getD u i 0 - 1) (length t) && eqb (getD t (getD u i 0 - 1) 0 - 1) i) h i m in
     getD-permuted u (permuted t b) i m
-    ∙ getD-permuted t b j (ltb→lt j (length t) (left (ltb j (length t)) (eqb (getD t j 0 - 1) i) test))
-    ∙ ap (λ (n : ℕ). getD b n 0) (eqb→eq (getD t j 0 - 1) i (right (ltb j (length t)) (eqb (getD t j 0 - 1) i) test)))
+    ∙ getD-permuted t b j (ltb→lt j (length t) (first-of (ltb j (length t)) (eqb (getD t j 0 - 1) i) test))
+    ∙ ap (λ (n : ℕ). getD b n 0) (eqb→eq (getD t j 0 - 1) i (second-of (ltb j (length t)) (eqb (getD t j 0 - 1) i) test)))
 
 pub inverse-after-initial : (b : List ℕ) → length b ≡ 64 → permuted inverseIP (permuted IP b) ≡ b
 unfolding undoes IP inverseIP
@@ -101,33 +89,3 @@ inverse-after-initial b l = undone inverseIP IP b tt l
 pub initial-after-inverse : (b : List ℕ) → length b ≡ 64 → permuted IP (permuted inverseIP b) ≡ b
 unfolding undoes IP inverseIP
 initial-after-inverse b l = undone IP inverseIP b tt l
-
--- ---- the tables of FIPS 46-3: antt tests each entry
-
-pub selects-IP : Selects 64 IP
-unfolding IP
-selects-IP = record { bits = lit≤ tt; entries = lit≤ tt; inside = tt }
-
-pub selects-inverseIP : Selects 64 inverseIP
-unfolding inverseIP
-selects-inverseIP = record { bits = lit≤ tt; entries = lit≤ tt; inside = tt }
-
-pub selects-E : Selects 32 E
-unfolding E
-selects-E = record { bits = lit≤ tt; entries = lit≤ tt; inside = tt }
-
-pub selects-P : Selects 32 P
-unfolding P
-selects-P = record { bits = lit≤ tt; entries = lit≤ tt; inside = tt }
-
-pub selects-PC1 : Selects 64 PC1
-unfolding PC1
-selects-PC1 = record { bits = lit≤ tt; entries = lit≤ tt; inside = tt }
-
-pub selects-PC2 : Selects 56 PC2
-unfolding PC2
-selects-PC2 = record { bits = lit≤ tt; entries = lit≤ tt; inside = tt }
-
--- a slice that holds a table, and a word that holds a string, give what the table selects of the string
-pub by-table : {t u x b : List ℕ} {r : ℕ} → t ≡ u → x ≡ b → Word (length t) (permuted t x) r → Word (length u) (permuted u b) r
-by-table {t} {u} {x} {b} {r} e h p = rw (e, h) at p

@@ -14,7 +14,7 @@ use Rattle.octets.proofs.Same.{same-equal}
 use Rattle.des.specs.Tables.{PC1, PC2}
 use Rattle.des.specs.Des.{bitsOf, bits, permuted, leftShift, bothShifted, keyHalves, roundKey, encipher}
 use Rattle.des.specs.WeakKeys.{withoutParity, weakKeys, among, weak}
-use Rattle.des.proofs.Tests.{left, right}
+use Rattle.computed.proofs.Tests.{first-of, second-of}
 use Rattle.des.proofs.Strings.{AreBits, areBits-take, areBits-drop, areBits-bits, areBits-permuted}
 use Rattle.des.proofs.KeySchedule.{length-keyHalves}
 use Rattle.des.proofs.Inverse.{AreOctets, computation-back}
@@ -85,8 +85,8 @@ module _ (key : List ℕ) (e : weak key ≡ true) where
 -- every element that antt finds below 256 is an octet
 tested-octets : (o : List ℕ) → T (areBytes o) → AreOctets o
 tested-octets [] t i = lit< tt
-tested-octets (x ∷ o) t zero = ltb→lt x 256 (left (ltb x 256) (areBytes o) t)
-tested-octets (x ∷ o) t (suc i) = tested-octets o (right (ltb x 256) (areBytes o) t) i
+tested-octets (x ∷ o) t zero = ltb→lt x 256 (first-of (ltb x 256) (areBytes o) t)
+tested-octets (x ∷ o) t (suc i) = tested-octets o (second-of (ltb x 256) (areBytes o) t) i
 
 -- keys that are the same without their parity bits are both weak or neither is
 weak-parity : (a b : List ℕ) → withoutParity a ≡ withoutParity b → weak a ≡ weak b

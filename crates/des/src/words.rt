@@ -1,21 +1,19 @@
-// Strings of up to 64 bits in a word, bit 1 the highest.
+// Strings of 64 bits in a word, bit 1 the highest.
 ghost use mathlib.Core.Path.{_≡_};
+ghost use Prim.Native.Nat.{_<_};
 ghost use lib.ListN.{length};
-ghost use Rattle.des.specs.Des.{bitsOf, bits, octets, permuted};
-ghost use Rattle.des.specs.Words.{Word, Selects};
+ghost use Rattle.computed.specs.Steps.{value};
+ghost use Rattle.des.specs.Des.{bitsOf, bits, octets};
+ghost use Rattle.des.specs.Words.{Word};
+ghost use Rattle.des.specs.Exchanges.{exchange};
 
-// The bits of a word of n bits that a table names, in the table's order.
-pub(crate) fn permuted(table: &[u8], n: u64, w: u64) -> u64
-    requires { ⌜ Selects n (now table) ⌝ }
-    ensures { λ r. ⌜ Word (length (now (table .entry))) (permuted (now (table .entry)) (bitsOf n w)) r ⌝ }
+// Each bit of the mask exchanged with the bit s places to its left.
+pub(crate) fn exchange(s: u64, mask: u64, w: u64) -> u64
+    requires { ⌜ s < 64 ⌝ }
+    ensures { λ r. ⌜ r ≡ value (exchange s mask) w ⌝ }
 {
-    let mut acc: u64 = 0;
-    let mut i = 0;
-    while i < table.len() {
-        acc = acc * 2 + (w >> (n - octets::wide(table[i]))) % 2;
-        i += 1;
-    }
-    acc
+    let differing = (w ^ (w >> s)) & mask;
+    w ^ differing ^ (differing << s)
 }
 
 // The 64 bits of eight octets.

@@ -1,4 +1,4 @@
-// The lines of the input: `SET KEY PLAINTEXT CIPHERTEXT`, each number of sixteen hexadecimal digits.
+// The lines of the input: `SET KEY PLAINTEXT CIPHERTEXT`, each number of sixteen hexadecimal digits; or `boxes`.
 use crate::hex;
 ghost use mathlib.Core.Path.{_≡_};
 ghost use Prim.Native.Nat.{_+_, _≤_, _<_};
@@ -25,6 +25,11 @@ pub(crate) fn is_comment(line: &[u8]) -> bool {
         return true;
     }
     line[0] == b'#'
+}
+
+// Whether a line asks for the S-boxes.
+pub(crate) fn asks_for_boxes(line: &[u8]) -> bool {
+    check::same(line, b"boxes")
 }
 
 // Whether a name has no space in it.

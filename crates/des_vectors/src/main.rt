@@ -1,5 +1,6 @@
 // Runs the DES vectors on standard input through the library, both ways. For each set it prints how many vectors it has and how many of them
-// came out right each way; a vector that did not has a line of its own, and so has a line that is no vector.
+// came out right each way; a vector that did not has a line of its own, and so has a line that is no vector. A line `boxes` asks for the S-boxes.
+mod boxes;
 mod hex;
 mod lines;
 mod tally;
@@ -122,6 +123,10 @@ fn with_line(s: &[u8], at: usize, end: usize, r: Report) -> Report
     let mut next = r;
     next.line = std::num::wrapping_add_u64(r.line, 1);
     if lines::is_comment(&s[at..end]) {
+        return next;
+    }
+    if lines::asks_for_boxes(&s[at..end]) {
+        boxes::print();
         return next;
     }
     let n = lines::name_length(&s[at..end]);

@@ -1,31 +1,33 @@
--- `rounds::f` meets its contract: each of its three steps is that of FIPS 46-3 on the word that it is handed.
+-- `rounds::f` meets its contract: each box is handed its six bits of K ⊕ E(R), and the tables give P of what the boxes select.
 -- Assumes nothing.
-use mathlib.Core.Path.{refl, ap, sym, _∙_, subst}
+use Prim.Native.Nat.{_/_, _^_}
 use borrow.Author.Needs.{needs}
-use Rattle.des.specs.Tables.{E, P}
-use Rattle.des.specs.Des.{bitsOf, permuted, selected, f}
-use Rattle.des.specs.Words.{Word, Selects}
-use Rattle.des.proofs.Held.{itself, added}
-use Rattle.des.proofs.Permutations.{selects-E, selects-P, by-table}
+use lib.Bits.{bitXor}
+use Rattle.des.specs.Tables.{E}
+use Rattle.des.specs.Des.{bitsOf, permuted, _⊕_, f}
+use Rattle.des.proofs.Windows.{handed}
+use Rattle.des.proofs.ThroughP.{all-boxes}
 use Rattle.des.proofs.rounds.f.Statement.{statement}
 use Rattle.des.proofs.rounds.f.Tie as tie
 
-permuted-requires : tie.Need-permuted-requires
-permuted-requires c κs = subst (Selects 32) (sym (c .before .before .before .pre .0)) selects-E
+windows-requires : tie.Need-windows-requires
+windows-requires c κs = search needs
 
-selected-requires : tie.Need-selected-requires
-selected-requires c κs = search needs
+through-p-requires : tie.Need-through-p-requires
+through-p-requires c κs = search needs
 
-permuted-requires-2 : tie.Need-permuted-requires-2
-permuted-requires-2 c κs = subst (Selects 32) (sym (c .before .before .before .before .before .pre .2)) selects-P
+cast-result : tie.Need-cast-result
+cast-result c = search needs
 
 returns : tie.Need-returns
-unfolding f E P
+unfolding f
 returns c =
-    let s = c .before .before .before .before .before .before in
-    let expanded : Word 48 (permuted E (bitsOf 32 (s .args .r))) (c .before .before .permuted .result) = by-table (s .pre .0) refl (c .before .before .permuted .ensures) in
-    let mixed = added expanded (itself 48 (s .args .k) (s .pre .3)) in
-    by-table (s .pre .2) (c .before .selected .ensures .same ∙ ap (selected 8) (mixed .same)) (c .permuted2 .ensures)
+    λ K gaps.
+    let a = c .before .before .args in
+    let w = c .before .windows in
+    rw (c .through-p .ensures)
+    (all-boxes (permuted E (bitsOf 32 (a .r)) ⊕ K) (bitXor (w .result) (a .k / 2 ^ 30)) (bitXor (w .result) (a .k))
+    (handed (a .r) (w .result) (a .k) K (w .ensures) gaps))
 
 pub f-spec : {M : Type 1} → statement M
-f-spec = tie.close (tie.spec permuted-requires selected-requires permuted-requires-2 returns)
+f-spec = tie.close (tie.spec windows-requires through-p-requires cast-result returns)
