@@ -106,7 +106,14 @@ fn vector(line: &[u8]) -> Option<(&[u8], [[u8; 8]; 3])> {
     Some((set, [number(0), number(1), number(2)]))
 }
 
-/// The report of `des_vectors`: each set's counts, each wrong number, each line that is no vector, the total.
+/// The eight S-boxes, a line for each row of sixteen.
+fn boxes() -> String {
+    let rows = des::S.iter().enumerate().flat_map(|(j, rows)| rows.iter().map(move |row| (j + 1, row)));
+    rows.map(|(number, row)| format!("S{number} {}\n", hex::text(row))).collect()
+}
+
+/// The report of `des_vectors`: each set's counts, each wrong number, each line that is no vector, the
+/// S-boxes where a line asks for them, the total.
 fn des_vectors(input: &[u8]) -> String {
     if input.len() >= 65_536 {
         return "the input is over 65535 octets\n".to_string();
@@ -116,6 +123,10 @@ fn des_vectors(input: &[u8]) -> String {
     let text = input.strip_suffix(b"\n").unwrap_or(input);
     let lines = text.split(|octet| *octet == b'\n');
     for (number, line) in lines.enumerate().filter(|(_, line)| !line.is_empty() && line[0] != b'#') {
+        if line == b"boxes" {
+            report += &boxes();
+            continue;
+        }
         let Some((name, [key, plain, cipher])) = vector(line) else {
             report += &format!("line {} is not a vector\n", number + 1);
             continue;

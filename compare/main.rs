@@ -1,5 +1,5 @@
 //! The independent program: the papers' rules written a second time, bit by bit, from the papers alone,
-//! and compared with our libraries.
+//! and compared with our libraries. Its DES and CRC stand in docs/bit_by_bit/, a program of its own as well (02, E13).
 //!
 //! `compare PART.. [--cases N] [--seed S]`, with N at least 1; the parts are `vectors` (the program against published data
 //! and itself), our programs by their names and, where compiled in, `primitives`, `frames`, `card`, `swap` and `tool`. `compare print
@@ -13,8 +13,10 @@ mod book;
 mod card;
 mod card_host;
 mod cardlog;
+#[path = "../docs/bit_by_bit/crc.rs"]
 mod crc;
 mod day;
+#[path = "../docs/bit_by_bit/des.rs"]
 mod des;
 mod encoding;
 mod frame;
@@ -53,6 +55,9 @@ mod card_calls;
 mod card_memory;
 #[cfg(part_card)]
 mod card_runs;
+#[cfg(part_figures)]
+#[path = "../docs/bit_by_bit/crc_by_octets.rs"]
+mod crc_by_octets;
 #[cfg(any(part_primitives, part_frames, part_card, part_swap, part_tool))]
 mod ffi;
 #[cfg(part_swap)]
@@ -62,9 +67,17 @@ mod ffi_tool;
 #[cfg(part_figures)]
 mod figures;
 #[cfg(part_figures)]
+mod figures_block;
+#[cfg(part_figures)]
 mod figures_card;
 #[cfg(part_figures)]
+mod figures_primitives;
+#[cfg(part_figures)]
+mod figures_programs;
+#[cfg(part_figures)]
 mod figures_receiver;
+#[cfg(part_figures)]
+mod figures_stack;
 #[cfg(part_frames)]
 mod frames;
 #[cfg(part_primitives)]

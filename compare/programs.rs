@@ -76,7 +76,8 @@ pub fn framelist(rng: &mut Rng, cases: usize) -> Result<usize, Disagreement> {
     Ok(tried)
 }
 
-/// A line of vectors: right, with a wrong digit, cut, with a stray octet, in lower case, a comment, or empty.
+/// A line of vectors: right, with a wrong digit, cut, with a stray octet, in lower case, a comment, or empty; or
+/// one that asks for the S-boxes, well or badly.
 fn vector_line(rng: &mut Rng) -> Vec<u8> {
     let (key, plain): (Block, Block) = (rng.field(), rng.field());
     let cipher = des::encipher(key, plain);
@@ -92,6 +93,7 @@ fn vector_line(rng: &mut Rng) -> Vec<u8> {
         4 => line.make_ascii_lowercase(),
         5 => line.insert(0, b'#'),
         6 if rng.once_in(3) => line.clear(),
+        7 if rng.once_in(5) => line = rng.pick(&["boxes", "boxes ", "Boxes", "boxe"]).into(),
         _ => {}
     }
     line

@@ -1,7 +1,6 @@
 /* How many octets of stack each call of the card, the tool, the swap file and the primitives needs, measured: the stack below the call is painted, and the deepest
  * octet that the call wrote is looked for. The card has 32 labels of 116 octets; every command that it takes is sent, good and bad. The tool makes
- * every request to it, with the most DATA. 256 is printed for 256 and less. The exit status is 1 where a call needs more than its header says, or DES
- * more than DES_STACK.
+ * every request to it, with the most DATA. The exit status is 1 where a call needs more than its header says, or DES more than DES_STACK.
  *
  * With -z now the loader looks for memcpy before the first call, and not on the stack that is measured. With -O1 the program's own frames, which
  * count as the call's, are small:
@@ -20,10 +19,10 @@
 #include <string.h>
 
 enum { ENQ = 0x01, REC = 0x03, AUT = 0x05, IB = 0x09, TRF = 0x0C, TRB = 0x0D };
-enum { STACK = 1 << 20, PAINT = 0xA5, NOT_PAINTED = 256, TAB = 31 };
+enum { STACK = 1 << 20, PAINT = 0xA5, TAB = 31 };
 
-/* DES holds one round key at a time (document 02, E3). With an array of sixteen a block needed 872 octets. */
-enum { DES_STACK = 864 };
+/* DES holds one round key at a time (document 02, E3). With an array of sixteen a block needed 260 octets. */
+enum { DES_STACK = 160 };
 
 /* Every call that is measured, with the most stack that it may need: what its header says, and of DES less. */
 #define CALLS(CALL)                                                                                                                        \
@@ -140,10 +139,10 @@ static __attribute__((noinline)) void measure(int call)
 {
     volatile uint8_t *here, *painted;
     __asm__ volatile("mov %%rsp, %0" : "=r"(here));
-    for (painted = stack; painted < here - NOT_PAINTED; painted++)
+    for (painted = stack; painted < here; painted++)
         *painted = PAINT;
     make(call);
-    for (painted = stack; painted < here - NOT_PAINTED && *painted == PAINT; painted++)
+    for (painted = stack; painted < here && *painted == PAINT; painted++)
         ;
     if ((size_t)(here - painted) > calls[call].needed)
         calls[call].needed = (size_t)(here - painted);

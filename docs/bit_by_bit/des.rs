@@ -78,7 +78,7 @@ const PC2: [usize; 48] = [
 const LEFT_SHIFTS: [usize; 16] = [1, 1, 2, 2, 2, 2, 2, 2, 1, 2, 2, 2, 2, 2, 2, 1];
 
 /// FIPS 46-3, Appendix 1: S1 to S8, each with rows 0 to 3 of sixteen columns.
-const S: [[[u8; 16]; 4]; 8] = [
+pub const S: [[[u8; 16]; 4]; 8] = [
     [
         [14, 4, 13, 1, 2, 15, 11, 8, 3, 10, 6, 12, 5, 9, 0, 7],
         [0, 15, 7, 4, 14, 2, 13, 1, 10, 6, 12, 11, 9, 5, 3, 8],
@@ -198,8 +198,7 @@ fn sixteen_rounds(block: [u8; 8], round_keys: impl Iterator<Item = [u8; 48]>) ->
         left = right;
         right = next;
     }
-    let preoutput = [right, left].concat();
-    octets_of(select(&preoutput, &IP_INVERSE))
+    octets_of(select([right, left].as_flattened(), &IP_INVERSE))
 }
 
 pub fn encipher(key: [u8; 8], block: [u8; 8]) -> [u8; 8] {
