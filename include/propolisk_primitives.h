@@ -3,8 +3,8 @@
  * Link libprimitive_exports.a (`rt staticlib primitive_exports` writes it to target/staticlib/, for x86-64 Linux). No call keeps anything between calls or
  * writes anything but what its sentence names. Buffers of one call must not overlap, and no pointer is null, also where its count is 0.
  *
- * Stack, measured in octets below the caller (examples/call_stack.c): one DES block, either way, 816, with one round key held at a time; the two
- * calls on check keys 576; fit 256 or less. */
+ * Stack, measured in octets below the caller (examples/call_stack.c): one DES block, either way, 112, with one round key held at a time; a check key
+ * 32, its test 48; fit 80. */
 #ifndef PROPOLISK_PRIMITIVES_H
 #define PROPOLISK_PRIMITIVES_H
 
@@ -13,7 +13,7 @@
 #include <stdint.h>
 
 /* Octets of stack that a call needs at most, as measured. */
-#define PROPOLISK_PRIMITIVES_STACK 1024
+#define PROPOLISK_PRIMITIVES_STACK 256
 
 /* The check key of the octets; a frame carries its low octet first. */
 uint16_t propolisk_crc_key(const uint8_t *octets, size_t count);
