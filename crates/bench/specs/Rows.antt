@@ -1,7 +1,7 @@
 -- The rows of 01, Measured on the bench, that are marked P, in the paper's order; then rows of our own for 02's requests. What a row leaves open, it holds for all of.
 use mathlib.Core.Path.{_≡_}
 use mathlib.Core.List.{List, [], _∷_, _++_}
-use Prim.Native.Nat.{ℕ, _≤_}
+use Prim.Native.Nat.{ℕ, _-_, _^_, _≤_}
 use lib.ListN.{length}
 use Rattle.numbers.specs.declared.Octets.{Octets}
 use Rattle.numbers.specs.declared.Characters.{Characters}
@@ -15,7 +15,7 @@ use Rattle.frame.specs.declared.content.Fields.{Fields}
 use Rattle.frame.specs.Sizes.{longestFrame}
 use Rattle.frame.specs.Content.{Shaped}
 use Rattle.frame.specs.Building.{built}
-use Rattle.number.specs.Groups.{encoded, found, frontNumber}
+use Rattle.number.specs.Groups.{encoded, found, none as noNumber, frontNumber}
 use Rattle.swap.specs.declared.file.RecordCount.{RecordCount}
 use Rattle.swap.specs.Record.{fileLimit}
 use Rattle.swap.specs.Reading.{verdictOf}
@@ -36,6 +36,8 @@ pub data Row : Type 0 where
   fits : List ℕ → Limit → Limit → Answer (Octets × Characters) → Row
   -- a number, and its octets in the swap file: it is written so, and read so whatever follows
   encodes : ℕ → List ℕ → Row
+  -- octets with which no number begins, whatever follows
+  unnumbered : List ℕ → Row
   -- how a swap file begins, and what reading it answers, whatever follows within the file's limit
   judges : List ℕ → Answer RecordCount → Row
 
@@ -46,6 +48,7 @@ Holds (builds command count answer) =
 Holds (fits label octetLimit characterLimit answer) =
     (octets characters : ℕ) → Allows octetLimit octets → Allows characterLimit characters → fitOf label (inOctets octets) (inCharacters characters) ≡ answer
 Holds (encodes n octets) = (encoded n ≡ octets) × ((rest : List ℕ) → frontNumber (octets ++ rest) ≡ found n (length octets))
+Holds (unnumbered octets) = (rest : List ℕ) → frontNumber (octets ++ rest) ≡ noNumber
 Holds (judges front answer) = (rest : List ℕ) → length (front ++ rest) ≤ fileLimit → verdictOf (front ++ rest) ≡ answer
 
 -- each row of a list holds
@@ -76,6 +79,10 @@ letterWithAccent = 0x65 ∷ 0xCC ∷ 0x81 ∷ []
 -- Z, o and these
 abbrev pub nameWithAccent : List ℕ
 nameWithAccent = 0x5A ∷ 0x6F ∷ letterWithAccent
+
+-- how a file of one record begins, up to its kind
+abbrev pub oneRecord : List ℕ
+oneRecord = 0x01 ∷ 0x11 ∷ 0x22 ∷ 0x33 ∷ 0x44 ∷ 0x55 ∷ 0x66 ∷ 0x0A ∷ []
 
 abbrev pub rows : List Row
 rows =
@@ -114,4 +121,14 @@ rows =
     fits (0x65 ∷ 0xE2 ∷ 0x83 ∷ 0x90 ∷ []) (exactly 4) (exactly 1) (kept 1 1) ∷
     -- 02, E1: where ill-formed text starts is as before
     fits (0x65 ∷ 0xCC ∷ 0x81 ∷ 0xFF ∷ []) any any (illFormedAt 3) ∷
-    fits (0x65 ∷ 0xCC ∷ 0xFF ∷ []) any any (illFormedAt 1) ∷ []
+    fits (0x65 ∷ 0xCC ∷ 0xFF ∷ []) any any (illFormedAt 1) ∷
+    -- 02, E10: "up to five octets and any number below 2^32, shortest form only"
+    encodes (2 ^ 32 - 1) (0xFF ∷ 0xFF ∷ 0xFF ∷ 0xFF ∷ 0x0F ∷ []) ∷
+    unnumbered (0x80 ∷ 0x80 ∷ 0x80 ∷ 0x80 ∷ 0x10 ∷ []) ∷
+    unnumbered (0x80 ∷ 0x80 ∷ 0x80 ∷ 0x80 ∷ 0x80 ∷ []) ∷
+    unnumbered (0x80 ∷ 0x80 ∷ 0x80 ∷ 0x80 ∷ 0x00 ∷ []) ∷
+    -- 02, E10: "each caller tests its own limit": a count that is a number, a label of 117 octets, a long record of 4,097; and kind 3 is none
+    judges (0xFF ∷ 0xFF ∷ 0xFF ∷ 0xFF ∷ 0x0F ∷ []) (refusedAt faultyFile (inOctets 0)) ∷
+    judges (oneRecord ++ 0x01 ∷ 0x75 ∷ []) (refusedAt faultyFile (inOctets 9)) ∷
+    judges (oneRecord ++ 0x02 ∷ 0x81 ∷ 0x20 ∷ []) (refusedAt faultyFile (inOctets 9)) ∷
+    judges (oneRecord ++ 0x03 ∷ []) (refusedAt faultyFile (inOctets 8)) ∷ []

@@ -1,4 +1,4 @@
-// Records that were read, for the swap file's writer.
+// Records that were read or logged, for the swap file's writer.
 use printing::print;
 use swap::Kind;
 use swap::RecordCount;
@@ -36,11 +36,15 @@ fn head_octets(records: RecordCount) -> usize {
 }
 
 impl Gathered {
-    // One record more, in its place; none where the file could not take it.
-    pub(crate) fn with(self, ads: [u8; 6], tab: u8, kind: Kind, read: Contents) -> Gathered {
+    // One record more that was read from a card.
+    pub(crate) fn with_read(self, ads: [u8; 6], tab: u8, kind: Kind, read: Contents) -> Gathered {
         let octets = read.octets;
         let length = read.length;
-        let data = octets::part(&octets, 0, length.0);
+        self.with(ads, tab, kind, octets::part(&octets, 0, length.0))
+    }
+
+    // One record more, in its place; none where the file could not take it.
+    pub(crate) fn with(self, ads: [u8; 6], tab: u8, kind: Kind, data: &[u8]) -> Gathered {
         let list = self.list;
         let mut heads = self.heads;
         let mut contents = self.contents;

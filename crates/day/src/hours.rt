@@ -14,11 +14,13 @@ use printing::print;
 use printing::print_number;
 use printing::print_octets;
 use printing::print_record;
+use swap::Cursor;
 use swap::Entry;
 use swap::Kind;
 use swap::Next;
 use swap::Started;
 use swap::next_for;
+use swap::next_to_program;
 use tool::Contents;
 
 // An index that no reading has.
@@ -70,7 +72,7 @@ fn taken(gathered: Gathered, ads: [u8; 6], tab: u8, primary: Primary) -> Gathere
     };
     let contents = primary.contents;
     print_read(tab, contents);
-    gathered.with(ads, tab, kind_of(tab), contents)
+    gathered.with_read(ads, tab, kind_of(tab), contents)
 }
 
 fn kind_of(tab: u8) -> Kind {
@@ -89,7 +91,7 @@ fn print_read(tab: u8, contents: Contents) {
     print_record(b" ", kind_of(tab), data, b"\n");
 }
 
-// Programs the flat's new card from the file's records for it, one after the other. The holder's label is tried with a wrong key first.
+// Programs the flat's new card from the file's records for it, one after the other; load curves are passed over. The holder's label is tried with a wrong key first.
 pub(crate) fn program_all(bus: Bus, file: &[u8]) -> Bus {
     let mut now = bus;
     let Started::First(first) = swap::cursor::start(file) else {
@@ -99,7 +101,7 @@ pub(crate) fn program_all(bus: Bus, file: &[u8]) -> Bus {
     let records = first.left;
     let mut left = records.0;
     while 0 < left {
-        let next = next_for(cursor, file, FLAT);
+        let next = next_to_program(cursor, file, FLAT);
         let Next::Record(entry, after) = next else {
             return now;
         };
@@ -175,27 +177,37 @@ pub(crate) fn compare_files(old: &[u8], new: &[u8]) {
     let records = old_first.left;
     let mut left = records.0;
     while 0 < left {
-        let old_next = next_for(old_cursor, old, FLAT);
-        let Next::Record(old_entry, old_after) = old_next else {
+        let next = next_for(old_cursor, old, FLAT);
+        let Next::Record(entry, after) = next else {
             return;
         };
-        let new_next = next_for(new_cursor, new, FLAT);
-        let Next::Record(new_entry, new_after) = new_next else {
-            return;
-        };
-        print_beside(old, old_entry, new, new_entry);
-        old_cursor = old_after;
-        new_cursor = new_after;
+        print_old(old, entry);
+        let kind = entry.kind;
+        new_cursor = print_beside(kind, new, new_cursor);
+        old_cursor = after;
         left -= 1;
     }
 }
 
-fn print_beside(old: &[u8], old_entry: Entry, new: &[u8], new_entry: Entry) {
-    let old_kind = old_entry.kind;
-    let new_kind = new_entry.kind;
-    let old_data = swap::cursor::content(old, old_entry);
-    let new_data = swap::cursor::content(new, new_entry);
-    print_octets(b"TAB ", &[old_entry.tab]);
-    print_record(b" old ", old_kind, old_data, b"   | new ");
-    print_record(b"", new_kind, new_data, b"\n");
+fn print_old(file: &[u8], entry: Entry) {
+    let kind = entry.kind;
+    let data = swap::cursor::content(file, entry);
+    print_octets(b"TAB ", &[entry.tab]);
+    print_record(b" old ", kind, data, b"   | new ");
+}
+
+// The new card's next record beside an old one of a kind, with the cursor after it; a load curve has none, since it is on no card.
+fn print_beside(kind: Kind, file: &[u8], cursor: Cursor) -> Cursor {
+    if let Kind::Long = kind {
+        print(b"none\n");
+        return cursor;
+    }
+    let next = next_to_program(cursor, file, FLAT);
+    let Next::Record(entry, after) = next else {
+        print(b"none\n");
+        return cursor;
+    };
+    let new_kind = entry.kind;
+    print_record(b"", new_kind, swap::cursor::content(file, entry), b"\n");
+    after
 }

@@ -1,4 +1,5 @@
 // The fitter's day, played by our tool and our cards on one wire: docs/PROGRAMS.md tells it.
+mod curve;
 mod exchange;
 mod gather;
 mod hours;
@@ -18,7 +19,7 @@ use tool::Tool;
 fn main() {
     let morning = seven();
     let gathered = morning.gathered;
-    let old = gathered.written();
+    let old = curve::log(gathered).written();
     let read = morning.bus;
     let fitted = ten(read, old);
     let cards = fitted.cards;

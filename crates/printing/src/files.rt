@@ -42,12 +42,13 @@ fn print_entry(file: &[u8], entry: Entry) {
     print_record(b" ", kind, swap::cursor::content(file, entry), b"\n");
 }
 
-// A record's kind, its counts, and what it holds, between two texts.
+// A record's kind, its counts, and what it holds, between two texts; what a long one holds would fill a page.
 pub fn print_record(before: &[u8], kind: Kind, data: &[u8], after: &[u8]) {
     print(before);
     match kind {
         Kind::Raw => print_raw(data),
         Kind::Label => print_label(data),
+        Kind::Long => print_number(b"long octets ", data.len()),
     }
     print(after);
 }

@@ -11,7 +11,7 @@ use Rattle.number.specs.Groups.{encoded, found, frontNumber}
 use Rattle.number.proofs.Fronts.{encoded-front}
 use Rattle.number.proofs.Forms.{front-form, own-form}
 use Rattle.swap.specs.declared.kind.Kind.{Kind}
-use Rattle.swap.specs.declared.kind.Kind.the-variants.{Raw, Label}
+use Rattle.swap.specs.declared.kind.Kind.the-variants.{Raw, Label, Long}
 use Rattle.swap.specs.Record.{Record, Sound, OfOctets, Each, rank, rankOf, kindOf, lengthLimit}
 use Rattle.swap.specs.Encoding.{recordOctets}
 use Rattle.swap.specs.Items.{frontRecord}
@@ -22,6 +22,7 @@ limit-small : (k : Kind) → lengthLimit k < 2 ^ 32
 unfolding lengthLimit
 limit-small Raw = lit< tt
 limit-small Label = lit< tt
+limit-small Long = lit< tt
 
 pub sound-octets : {r : Record} → Sound r → OfOctets r
 sound-octets s =

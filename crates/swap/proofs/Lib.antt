@@ -2,6 +2,9 @@ pub mod Encoded
 pub mod Faults
 pub mod Ranks
 pub mod KindOctets
+pub mod AnyOctets
+pub mod Calls
+pub mod Lists
 mod Cursors
 pub mod Parts
 mod Judging

@@ -18,7 +18,7 @@ use Rattle.swap.specs.declared.cursor.Next.{Next}
 use Rattle.swap.specs.declared.cursor.Next.the-variants as next
 use Rattle.swap.specs.declared.cursor.Started.{Started}
 use Rattle.swap.specs.declared.cursor.Started.the-variants as started-as
-use Rattle.swap.specs.Record.{Record, kindOf}
+use Rattle.swap.specs.Record.{Record, kindOctet, kindOf}
 use Rattle.swap.specs.Encoding.{recordsOctets}
 use Rattle.swap.specs.Items.{Judged, bad, good, judged, judgedContent, lengthField}
 use Rattle.swap.specs.Reading.{FileListing, faulty, listed, readFile, inRecordCount}
@@ -88,16 +88,16 @@ contentOf s e = cond (leb (e .from .0 + e .length .0) (length s)) (take (e .leng
 pub record Shows (s : List ℕ) (e : Entry) (r : Record) : Type 0 where
   pub ads : adsOf s e ≡ r .ads
   pub tab : e .tab ≡ r .tab
-  pub kind : e .kind ≡ kindOf (r .kind)
+  pub kind : kindOctet (e .kind) ≡ r .kind
   pub content : contentOf s e ≡ r .content
 
--- at a cursor a file gives this record, and another cursor after it
-pub record GivesNext (s : List ℕ) (c : Cursor) (r : Record) (after : Cursor) : Type 0 where
+-- at a cursor a file gives this record, and another cursor after it; answer is what stands at a cursor, or what is searched for from there on
+pub record GivesNext (answer : List ℕ → Cursor → Answer Standing) (s : List ℕ) (c : Cursor) (r : Record) (after : Cursor) : Type 0 where
   pub entry : Entry
-  pub here : nextAt s c ≡ given (recordHere entry after)
+  pub here : answer s c ≡ given (recordHere entry after)
   pub shows : Shows s entry r
 
 -- from a cursor on a file gives these records one after the other, and then the end
-pub data GivesAll (s : List ℕ) : Cursor → List Record → Type 0 where
-  ended : {c : Cursor} → nextAt s c ≡ given fileEnd → GivesAll s c []
-  further : {c after : Cursor} {r : Record} {rs : List Record} → GivesNext s c r after → GivesAll s after rs → GivesAll s c (r ∷ rs)
+pub data GivesAll (answer : List ℕ → Cursor → Answer Standing) (s : List ℕ) : Cursor → List Record → Type 0 where
+  ended : {c : Cursor} → answer s c ≡ given fileEnd → GivesAll answer s c []
+  further : {c after : Cursor} {r : Record} {rs : List Record} → GivesNext answer s c r after → GivesAll answer s after rs → GivesAll answer s c (r ∷ rs)

@@ -1,4 +1,4 @@
--- A record of the swap file and the rules that it keeps (01, Swap file).
+-- A record of the swap file and the rules that it keeps (01, Swap file; 02, E10).
 use Prim.Native.Nat.{ℕ, suc, _+_, _*_, _≤_, _<_}
 use mathlib.Core.Path.{_≡_}
 use mathlib.Core.Bool.{Bool, true, cond}
@@ -7,7 +7,7 @@ use lib.Dec.{leb, eqb}
 use lib.ListN.{length, getD}
 use Rattle.label.specs.Utf8.{wellFormed}
 use Rattle.swap.specs.declared.kind.Kind.{Kind}
-use Rattle.swap.specs.declared.kind.Kind.the-variants.{Raw, Label}
+use Rattle.swap.specs.declared.kind.Kind.the-variants.{Raw, Label, Long}
 
 -- content stands for 01's data
 pub record Record : Type 0 where
@@ -16,27 +16,31 @@ pub record Record : Type 0 where
   pub kind : ℕ
   pub content : List ℕ
 
--- 01, Swap file: "kind 1 (0 raw, 1 label)"
+-- 01, Swap file: "kind 1 (0 raw, 1 label)"; 02, E10: "a raw kind, 2, long record"
 abbrev pub kindOctet : Kind → ℕ
 kindOctet Raw = 0
 kindOctet Label = 1
+kindOctet Long = 2
 
+-- an octet stands for a kind
 unfoldable pub knownKind : ℕ → Bool
-knownKind octet = leb octet 1
+knownKind octet = leb octet 2
 
 -- the kind of a known octet
 unfoldable pub kindOf : ℕ → Kind
-kindOf octet = cond (eqb octet 1) Label Raw
+kindOf octet = cond (eqb octet 1) Label (cond (eqb octet 2) Long Raw)
 
--- 01, Swap file: "length 0 to 116"
+-- 02, E10: "length 0 to 4,096; kinds 0 and 1 are held to 116"
 unfoldable pub lengthLimit : Kind → ℕ
 lengthLimit Raw = 116
 lengthLimit Label = 116
+lengthLimit Long = 4096
 
--- 01, Swap file: "label data is well-formed"
+-- 01, Swap file: "label data is well-formed"; 02, E10: a long record is raw
 unfoldable pub fitsKind : Kind → List ℕ → Bool
 fitsKind Raw content = true
 fitsKind Label content = wellFormed content
+fitsKind Long content = true
 
 -- 01, Swap file: "Count 0 to 4,096"
 abbrev pub countLimit : ℕ

@@ -1,43 +1,69 @@
--- The records of one station in a swap file (00: "the same tool programs it from that file").
+-- The records of one station in a swap file, all of them or those to program (00: "the same tool programs it from that file").
 use Prim.Native.Nat.{ℕ, zero, suc}
 use mathlib.Core.Path.{_≡_}
-use mathlib.Core.Bool.{cond}
+use mathlib.Core.Bool.{Bool, true, cond, _&&_}
 use mathlib.Core.List.{List, [], _∷_}
+use lib.Dec.{leb}
 use Rattle.octets.specs.Part.{same}
 use Rattle.swap.specs.declared.item.Entry.{Entry}
 use Rattle.swap.specs.declared.cursor.Cursor.{Cursor}
-use Rattle.swap.specs.Record.{Record}
+use Rattle.swap.specs.declared.station.Asked.{Asked}
+use Rattle.swap.specs.declared.station.Asked.the-variants.{Every, ToProgram}
+use Rattle.swap.specs.declared.kind.Kind.the-variants.{Long}
+use Rattle.swap.specs.Record.{Record, kindOctet, kindOf}
 use Rattle.numbers.specs.Answer.{Answer, given, refused, refusedAt}
-use Rattle.swap.specs.Cursor.{Standing, recordHere, fileEnd, nextAt, adsOf, Shows}
+use Rattle.swap.specs.Cursor.{Standing, recordHere, fileEnd, nextAt, adsOf}
 
--- what stands at a cursor, if it is the station's; else the answer from the cursor after it on
-unfoldable pub chosen : List ℕ → List ℕ → (Cursor → Answer Standing) → Answer Standing → Answer Standing
-chosen ads s later (given fileEnd) = given fileEnd
-chosen ads s later (given (recordHere entry after)) = cond (same (adsOf s entry) ads) (given (recordHere entry after)) (later after)
-chosen ads s later (refused n) = refused n
-chosen ads s later (refusedAt n offset) = refusedAt n offset
+-- which kinds are asked for, by their octet; 02, E10: "The tool passes over long records when it programs", and kinds 0 and 1 it takes
+unfoldable pub asks : Asked → ℕ → Bool
+asks Every kind = true
+asks ToProgram kind = leb kind 1
 
--- the first record of the station among the next so many
-unfoldable pub firstOf : ℕ → List ℕ → List ℕ → Cursor → Answer Standing
-firstOf zero ads s c = given fileEnd
-firstOf (suc k) ads s c = chosen ads s (firstOf k ads s) (nextAt s c)
+-- what stands at a cursor, if it is wanted; else the answer from the cursor after it on
+unfoldable pub chosen : (Entry → Bool) → (Cursor → Answer Standing) → Answer Standing → Answer Standing
+chosen wanted later (given fileEnd) = given fileEnd
+chosen wanted later (given (recordHere entry after)) = cond (wanted entry) (given (recordHere entry after)) (later after)
+chosen wanted later (refused n) = refused n
+chosen wanted later (refusedAt n offset) = refusedAt n offset
 
--- the first record of the station from a cursor on: the end where none is left, 18 where no record of the file stands on the way
-unfoldable pub nextFor : List ℕ → List ℕ → Cursor → Answer Standing
-nextFor ads s c = firstOf (c .left .0) ads s c
+-- the first wanted record among the next so many
+unfoldable pub firstOf : ℕ → (Entry → Bool) → List ℕ → Cursor → Answer Standing
+firstOf zero wanted s c = given fileEnd
+firstOf (suc k) wanted s c = chosen wanted (firstOf k wanted s) (nextAt s c)
 
--- from a cursor on a file gives the station this record, and another cursor after it
-pub record GivesFor (ads s : List ℕ) (c : Cursor) (r : Record) (after : Cursor) : Type 0 where
-  pub entry : Entry
-  pub here : nextFor ads s c ≡ given (recordHere entry after)
-  pub shows : Shows s entry r
+-- an entry of the file is the station's, and of a kind that is asked for
+unfoldable pub wantedEntry : Asked → List ℕ → List ℕ → Entry → Bool
+wantedEntry asked ads s e = same (adsOf s e) ads && asks asked (kindOctet (e .kind))
 
--- from a cursor on a file gives the station these records one after the other, and then the end
-pub data GivesAllFor (ads s : List ℕ) : Cursor → List Record → Type 0 where
-  ended : {c : Cursor} → nextFor ads s c ≡ given fileEnd → GivesAllFor ads s c []
-  further : {c after : Cursor} {r : Record} {rs : List Record} → GivesFor ads s c r after → GivesAllFor ads s after rs → GivesAllFor ads s c (r ∷ rs)
+-- the first record that is wanted, from a cursor on: the end where none is left, 18 where no record of the file stands on the way
+unfoldable pub nextAsked : Asked → List ℕ → List ℕ → Cursor → Answer Standing
+nextAsked asked ads s c = firstOf (c .left .0) (wantedEntry asked ads s) s c
 
--- the records of a station, in their order
-unfoldable pub ofStation : List ℕ → List Record → List Record
-ofStation ads [] = []
-ofStation ads (r ∷ rs) = cond (same (r .ads) ads) (r ∷ ofStation ads rs) (ofStation ads rs)
+abbrev pub nextFor : List ℕ → List ℕ → Cursor → Answer Standing
+nextFor ads s c = nextAsked Every ads s c
+
+abbrev pub nextToProgram : List ℕ → List ℕ → Cursor → Answer Standing
+nextToProgram ads s c = nextAsked ToProgram ads s c
+
+-- a record is the station's, and of a kind that is asked for
+unfoldable pub wantedRecord : Asked → List ℕ → Record → Bool
+wantedRecord asked ads r = same (r .ads) ads && asks asked (r .kind)
+
+-- the records that are wanted, in their order
+unfoldable pub recordsAsked : Asked → List ℕ → List Record → List Record
+recordsAsked asked ads [] = []
+recordsAsked asked ads (r ∷ rs) = cond (wantedRecord asked ads r) (r ∷ recordsAsked asked ads rs) (recordsAsked asked ads rs)
+
+-- the second are all those of the first that have a property, and no others, in their order
+pub data Those (P : Record → Type 0) : List Record → List Record → Type 0 where
+  none : Those P [] []
+  kept : {r : Record} {rs qs : List Record} → P r → Those P rs qs → Those P (r ∷ rs) (r ∷ qs)
+  leftOut : {r : Record} {rs qs : List Record} → (P r → ⊥) → Those P rs qs → Those P (r ∷ rs) qs
+
+-- a record is the station's
+abbrev pub OfStation : List ℕ → Record → Type 0
+OfStation ads r = r .ads ≡ ads
+
+-- a record is the station's, and not a long one
+abbrev pub ToBeProgrammed : List ℕ → Record → Type 0
+ToBeProgrammed ads r = (r .ads ≡ ads) × (kindOf (r .kind) ≡ Long → ⊥)

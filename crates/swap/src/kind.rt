@@ -5,24 +5,34 @@ ghost use Rattle.swap.specs.Record.{kindOctet, knownKind, kindOf, length
 use label::Text;
 use numbers::Octets;
 
-// What a record holds: octets of any sort, or a label's text.
+// The most octets that the data of a raw record or a label has.
+const CONTENT_LIMIT: usize = 116;
+// The most octets that the data of a long record has.
+const LONG_CONTENT_LIMIT: usize = 4096;
+
+// What a record holds: octets of any sort, a label's text, or the octets of a load curve, of which there may be more.
 pub enum Kind {
     Raw,
     Label,
+    Long,
 }
 
 // Whether an octet stands for a kind.
 pub fn known(octet: u8) -> bool
     ensures { λ r. ⌜ r ≡ knownKind octet ⌝ }
 {
-    octet <= 1
+    octet <= 2
 }
 
 // The kind that a known octet stands for; any other octet is taken for raw.
 pub fn kind_of(octet: u8) -> Kind
     ensures { λ r. ⌜ r ≡ kindOf octet ⌝ }
 {
-    if octet == 1 { Kind::Label } else { Kind::Raw }
+    match octet {
+        1 => Kind::Label,
+        2 => Kind::Long,
+        _ => Kind::Raw,
+    }
 }
 
 // The octet that stands for a kind.
@@ -32,6 +42,7 @@ pub fn octet_of(kind: Kind) -> u8
     match kind {
         Kind::Raw => 0,
         Kind::Label => 1,
+        Kind::Long => 2,
     }
 }
 
@@ -40,8 +51,9 @@ pub fn length_limit(kind: Kind) -> Octets
     ensures { λ r. ⌜ r .0 ≡ lengthLimit kind ⌝ }
 {
     match kind {
-        Kind::Raw => Octets(116),
-        Kind::Label => Octets(116),
+        Kind::Raw => Octets(CONTENT_LIMIT),
+        Kind::Label => Octets(CONTENT_LIMIT),
+        Kind::Long => Octets(LONG_CONTENT_LIMIT),
     }
 }
 
@@ -52,6 +64,7 @@ pub fn fits_kind(kind: Kind, content: &[u8]) -> bool
     match kind {
         Kind::Raw => true,
         Kind::Label => is_well_formed(content),
+        Kind::Long => true,
     }
 }
 

@@ -14,3 +14,4 @@ pub use file::judge;
 pub use item::Entry;
 pub use kind::Kind;
 pub use station::next_for;
+pub use station::next_to_program;

@@ -3,7 +3,7 @@ ghost use mathlib.Core.Path.{_≡_};
 ghost use Rattle.numbers.specs.Counts.{inOctets};
 ghost use Rattle.swap.specs.Reading.{verdictOf, inRecordCount};
 ghost use Rattle.swap.specs.Cursor.{startOf, answerOfNext, nextAt};
-ghost use Rattle.swap.specs.Station.{nextFor};
+ghost use Rattle.swap.specs.Station.{nextFor, nextToProgram};
 ghost use Rattle.swap_exports.specs.Reports.{judgedAs, startedAs, shown};
 use numbers::Octets;
 use numbers::table;
@@ -102,6 +102,31 @@ pub extern "C" fn propolisk_swap_next_for(
     };
     let its = *station;
     let next = swap::next_for(here, file, its);
+    show(next, file, at, left, found, ads, tab, kind, from, length)
+}
+
+// As above, for the first record that a tool programs this station's card with: its long records are passed over.
+#[no_mangle]
+pub extern "C" fn propolisk_swap_next_to_program(
+    file: &[u8],
+    station: &[u8; 6],
+    at: &mut usize,
+    left: &mut usize,
+    found: &mut bool,
+    ads: &mut [u8; 6],
+    tab: &mut u8,
+    kind: &mut u8,
+    from: &mut usize,
+    length: &mut usize,
+) -> u8
+    ensures { λ r. ⌜ record { number = r; at = now (at .exit); left = now (left .exit); found = now (found .exit); ads = now (ads .exit); tab = now (tab .exit); kind = now (kind .exit); from = now (from .exit); length = now (length .exit) } ≡ shown (nextToProgram (now (station .entry)) (now (file .entry)) (record { at = inOctets (now (at .entry)); left = inRecordCount (now (left .entry)) })) (now (file .entry)) (record { number = 0; at = now (at .entry); left = now (left .entry); found = now (found .entry); ads = now (ads .entry); tab = now (tab .entry); kind = now (kind .entry); from = now (from .entry); length = now (length .entry) }) ⌝ }
+{
+    let here = Cursor {
+        at: Octets(*at),
+        left: RecordCount(*left),
+    };
+    let its = *station;
+    let next = swap::next_to_program(here, file, its);
     show(next, file, at, left, found, ads, tab, kind, from, length)
 }
 

@@ -14,7 +14,7 @@ use Rattle.text.proofs.Hexadecimal.{length-hex}
 use Rattle.text.proofs.Writing.{Written, joined}
 use Rattle.label.specs.Fitting.{measured}
 use Rattle.swap.specs.declared.kind.Kind.{Kind}
-use Rattle.swap.specs.declared.kind.Kind.the-variants.{Raw, Label}
+use Rattle.swap.specs.declared.kind.Kind.the-variants.{Raw, Label, Long}
 use Rattle.swap_text.specs.Lines.{countLine, refusalLine, charactersText, kindText, nameText, recordLine, longestLine}
 
 pub name-long : (ads : List ℕ) (tab : ℕ) → length ads ≡ 6 → length (nameText ads tab) ≡ 15
@@ -32,6 +32,7 @@ unfolding kindText
 kind-most Raw content = omega (arith, text-most (length content))
 kind-most Label content =
     rw length-append (omega (arith, text-most (length content), characters-most (measured content)))
+kind-most Long content = omega (arith, text-most (length content))
 
 -- every line of a record is within the most
 pub record-most : (ads : List ℕ) (tab : ℕ) (kind : Kind) (content : List ℕ) → length ads ≡ 6 → length (recordLine ads tab kind content) ≤ longestLine

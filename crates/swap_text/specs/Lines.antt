@@ -8,7 +8,7 @@ use Rattle.text.specs.Text.{hexText, decimalText}
 use Rattle.text.specs.Quoted.{quoted}
 use Rattle.label.specs.Fitting.{measured}
 use Rattle.swap.specs.declared.kind.Kind.{Kind}
-use Rattle.swap.specs.declared.kind.Kind.the-variants.{Raw, Label}
+use Rattle.swap.specs.declared.kind.Kind.the-variants.{Raw, Label, Long}
 use Rattle.swap.specs.Record.{Record, kindOf}
 use Rattle.swap.specs.Reading.{FileListing, faulty, listed}
 
@@ -29,10 +29,11 @@ charactersText (given count) = quoted " characters " ++ decimalText (count .0)
 charactersText (refused n) = []
 charactersText (refusedAt n offset) = []
 
--- 01, Swap file: "label octets 4 characters 3", "raw octets 2"
+-- 01, Swap file: "label octets 4 characters 3", "raw octets 2"; 02, E10: "`swaplist` shows `long octets` with the length"
 unfoldable pub kindText : Kind → List ℕ → List ℕ
 kindText Raw content = quoted " raw octets " ++ decimalText (length content)
 kindText Label content = (quoted " label octets " ++ decimalText (length content)) ++ charactersText (measured content)
+kindText Long content = quoted " long octets " ++ decimalText (length content)
 
 -- ADS and TAB; 01, Swap file: "112233445566 0A"
 unfoldable pub nameText : List ℕ → ℕ → List ℕ

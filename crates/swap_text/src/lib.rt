@@ -79,6 +79,7 @@ fn put_kind(line: &mut [u8], at: Octets, kind: Kind, content: &[u8]) -> Octets
     match kind {
         Kind::Raw => put_number(line, at, b" raw octets ", content.len() as u64),
         Kind::Label => put_label(line, at, content),
+        Kind::Long => put_number(line, at, b" long octets ", content.len() as u64),
     }
 }
 

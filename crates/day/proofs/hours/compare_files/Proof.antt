@@ -39,20 +39,14 @@ loop-holds c = search needs
 next-for-requires : tie.Need-next-for-requires Inv-loop μ-loop
 next-for-requires c κs = search needs
 
-enum-known-old-next : tie.Need-enum-known-old-next Inv-loop μ-loop
-enum-known-old-next c = search needs
+enum-known-next : tie.Need-enum-known-next Inv-loop μ-loop
+enum-known-next c = search needs
 
 returns-3 : tie.Need-returns-3 Inv-loop μ-loop
 returns-3 c = search needs
 
-next-for-requires-2 : tie.Need-next-for-requires-2 Inv-loop μ-loop
-next-for-requires-2 c κs = search needs
-
-enum-known-new-next : tie.Need-enum-known-new-next Inv-loop μ-loop
-enum-known-new-next c = search needs
-
-returns-4 : tie.Need-returns-4 Inv-loop μ-loop
-returns-4 c = search needs
+print-old-requires : tie.Need-print-old-requires Inv-loop μ-loop
+print-old-requires c κs = search needs
 
 print-beside-requires : tie.Need-print-beside-requires Inv-loop μ-loop
 print-beside-requires c κs = search needs
@@ -66,8 +60,8 @@ loop-less c = search needs
 loop-again : tie.Need-loop-again Inv-loop μ-loop
 loop-again c = search needs
 
-returns-5 : tie.Need-returns-5 Inv-loop μ-loop
-returns-5 c = search needs
+returns-4 : tie.Need-returns-4 Inv-loop μ-loop
+returns-4 c = search needs
 
 pub compare-files-spec : {M : Type 1} → statement M
 compare-files-spec =
@@ -85,13 +79,11 @@ compare-files-spec =
     returns-2
     loop-holds
     next-for-requires
-    enum-known-old-next
+    enum-known-next
     returns-3
-    next-for-requires-2
-    enum-known-new-next
-    returns-4
+    print-old-requires
     print-beside-requires
     sub-left
     loop-less
     loop-again
-    returns-5)
+    returns-4)

@@ -24,8 +24,8 @@ returns c = search needs
 loop-holds : tie.Need-loop-holds Inv-loop μ-loop
 loop-holds c = search needs
 
-next-for-requires : tie.Need-next-for-requires Inv-loop μ-loop
-next-for-requires c κs = search needs
+next-to-program-requires : tie.Need-next-to-program-requires Inv-loop μ-loop
+next-to-program-requires c κs = search needs
 
 enum-known-next : tie.Need-enum-known-next Inv-loop μ-loop
 enum-known-next c = search needs
@@ -62,7 +62,7 @@ program-all-spec =
     enum-told
     returns
     loop-holds
-    next-for-requires
+    next-to-program-requires
     enum-known-next
     returns-2
     fitted-requires
