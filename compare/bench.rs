@@ -1,4 +1,5 @@
-//! Self-tests on 01's own rows: labels, DATA limits, numbers, swap files, receiving; and on E1's labels.
+//! Self-tests on 01's own rows: labels, DATA limits, numbers, swap files, receiving; and on E1's labels and
+//! E10's numbers and long records.
 
 use crate::frame::{self, Address, Block, Body, Frame, Number};
 use crate::hex::{self, Hex};
@@ -8,7 +9,7 @@ use crate::receiver::{Heard, Receiver};
 use crate::record::{LABEL, RAW};
 use crate::report::{same, Case, Disagreement};
 use crate::rng::Rng;
-use crate::swap::{self, Fault, Written};
+use crate::swap::{self, Fault, Item, Written, LONG, LONGEST_CURVE, LONGEST_DATA};
 use crate::tool::{Request, Tool};
 use crate::utf8::{self, Characters, Fit, Octets};
 
@@ -110,14 +111,66 @@ pub fn data_limits() -> Result<usize, Disagreement> {
     Ok(2 * rows.len() + 4)
 }
 
+/// 02, E10, rows of our own: octets, and the number that they start with and the count of its octets, if any.
+const NUMBERS: [(&str, Option<(usize, usize)>); 10] = [
+    ("FFFFFFFF0F", Some((0xFFFF_FFFF, 5))),
+    ("FFFFFFFF0F00", Some((0xFFFF_FFFF, 5))),
+    ("8080808010", None),
+    ("8080808080", None),
+    ("8080808000", None),
+    ("808080808001", None),
+    ("FFFFFFFF7F", None),
+    ("00", Some((0, 1))),
+    ("8000", None),
+    ("", None),
+];
+
 pub fn numbers() -> Result<usize, Disagreement> {
     same(Hex(&number::shortest_form(4096)), Hex(&[0x80, 0x20]), || "4096".into())?;
-    same(swap::read(&[0x81, 0x00]), Err(Fault(0)), || "8100".into())?;
+    same(swap::read(&[0x81, 0x00]), Err(Fault { item: Item::Count, offset: 0 }), || "8100".into())?;
     for value in 0..=4096 {
         let octets = number::shortest_form(value);
-        same(number::read(&octets, 4096), Some((value, octets.len())), || value.to_string())?;
+        same(number::read(&octets), Some((value, octets.len())), || value.to_string())?;
     }
-    Ok(4099)
+    for (octets, expected) in NUMBERS {
+        same(number::read(&hex::octets(octets)), expected, || octets.into())?;
+    }
+    Ok(4099 + NUMBERS.len())
+}
+
+/// A number in so many octets, shortest form or not, or none where they are too few for it.
+fn form(value: u64, octets: u32) -> Option<Vec<u8>> {
+    let group = |place: u32| (value >> (7 * place)) as u8 | 0x80;
+    let mut form: Vec<u8> = (0..octets).map(group).collect();
+    *form.last_mut()? &= 0x7F;
+    (value < 1 << (7 * octets)).then_some(form)
+}
+
+/// Numbers about each power of two at which a form or E10's bound ends, in every form of one to six octets:
+/// only the shortest is read, and only below 2^32; and within a caller's limit all is read as before E10.
+pub fn number_forms() -> Result<usize, Disagreement> {
+    let mut cases = 0;
+    let powers = [7, 14, 21, 28, 32].map(|power| 1u64 << power);
+    let values = powers.into_iter().flat_map(|power| power - 2..=power + 2).chain(0..=2);
+    for (value, octets) in values.flat_map(|value| (1..=6).map(move |octets| (value, octets))) {
+        let Some(form) = form(value, octets) else { continue };
+        let shortest = octets == 1 || value >= 1 << (7 * (octets - 1));
+        let expected = (shortest && value < 1 << 32).then_some((value as usize, octets as usize));
+        for after in [&[][..], &[0x00], &[0x80], &[0xFF; 6]] {
+            let input = [&form[..], after].concat();
+            same(number::read(&input), expected, || hex::text(&input))?;
+            for limit in [LONGEST_DATA, LONGEST_CURVE] {
+                let within = |number: &(usize, usize)| number.0 <= limit;
+                let (now, before) = (number::read(&input), number::read_before(&input));
+                same(now.filter(within), before.filter(within), || hex::text(&input))?;
+            }
+            cases += 1;
+        }
+        let cut = &form[..form.len() - 1];
+        same(number::read(cut), None, || hex::text(cut))?;
+        cases += 1;
+    }
+    Ok(cases)
 }
 
 pub const SAMPLE: &str = "02 112233445566 0A 01 04 5A6FC3A9 112233445566 0B 00 02 00FF";
@@ -138,40 +191,68 @@ const COMBINING_LISTING: &str = "records 3
 CC8133445566 0A label octets 4 characters 1
 ";
 
+/// 02, E10: a long record between two others, whose octets are no text.
+pub const LONG_SAMPLE: &str =
+    "03 112233445566 0A 01 04 5A6FC3A9 112233445566 0B 02 02 C3FF 112233445566 0C 00 00";
+
+const LONG_LISTING: &str = "records 3
+112233445566 0A label octets 4 characters 3
+112233445566 0B long octets 2
+112233445566 0C raw octets 0
+";
+
 /// A faulty file of each item, with the offset that comes with 18.
-pub const FAULTY_FILES: [(&str, usize); 18] = [
-    ("", 0),
-    ("80", 0),
-    ("8100", 0),
-    ("8120", 0),
-    ("01", 1),
-    ("02 112233445566 0A 01 04 5A6FC3A9 112233445566", 14),
-    ("02 112233445566 0A 01 04 5A6FC3A9 112233445566 0A 00 02 00FF", 14),
-    ("02 112233445566 0A 01 04 5A6FC3A9 112233445565 0B 00 02 00FF", 14),
-    ("01 112233445566 0A", 8),
-    ("01 112233445566 0A 02 00", 8),
-    ("01 112233445566 0A 01", 9),
-    ("01 112233445566 0A 00 75", 9),
-    ("01 112233445566 0A 00 8000", 9),
-    ("01 112233445566 0A 00 04 5A6FC3", 10),
-    ("01 112233445566 0A 01 04 5A6FC3C3", 10),
-    ("01 112233445566 0A 01 04 5A6F65CC", 10),
-    ("01 112233445566 0A 01 04 5A6FC3A9 00", 14),
-    ("00 00", 1),
+pub const FAULTY_FILES: [(&str, Item, usize); 30] = [
+    ("", Item::Count, 0),
+    ("80", Item::Count, 0),
+    ("8100", Item::Count, 0),
+    ("8120", Item::Count, 0),
+    ("FFFFFFFF0F", Item::Count, 0),
+    ("8080808010", Item::Count, 0),
+    ("808080808001", Item::Count, 0),
+    ("01", Item::AddressWithTab, 1),
+    ("02 112233445566 0A 01 04 5A6FC3A9 112233445566", Item::AddressWithTab, 14),
+    ("02 112233445566 0A 01 04 5A6FC3A9 112233445566 0A 00 02 00FF", Item::AddressWithTab, 14),
+    ("02 112233445566 0A 01 04 5A6FC3A9 112233445565 0B 00 02 00FF", Item::AddressWithTab, 14),
+    ("01 112233445566 0A", Item::Kind, 8),
+    ("01 112233445566 0A 03 00", Item::Kind, 8),
+    ("01 112233445566 0A 01", Item::Length, 9),
+    ("01 112233445566 0A 00 75", Item::Length, 9),
+    ("01 112233445566 0A 01 75", Item::Length, 9),
+    ("01 112233445566 0A 00 8000", Item::Length, 9),
+    ("01 112233445566 0A 02", Item::Length, 9),
+    ("01 112233445566 0A 02 8000", Item::Length, 9),
+    ("01 112233445566 0A 02 8120", Item::Length, 9),
+    ("01 112233445566 0A 02 FFFFFFFF0F", Item::Length, 9),
+    ("01 112233445566 0A 02 8080808010", Item::Length, 9),
+    ("01 112233445566 0A 00 04 5A6FC3", Item::Data, 10),
+    ("01 112233445566 0A 01 04 5A6FC3C3", Item::Data, 10),
+    ("01 112233445566 0A 01 04 5A6F65CC", Item::Data, 10),
+    ("01 112233445566 0A 02 75", Item::Data, 10),
+    ("01 112233445566 0A 02 8020 00", Item::Data, 11),
+    ("01 112233445566 0A 01 04 5A6FC3A9 00", Item::Rest, 14),
+    ("01 112233445566 0A 02 02 C3FF 00", Item::Rest, 12),
+    ("00 00", Item::Rest, 1),
 ];
 
-/// 01's file, a file with E1's labels, and a fault of every item.
+/// 01's file, files with E1's labels and E10's long record, and a fault of every item.
 pub fn swap_files() -> Result<usize, Disagreement> {
-    same(swap::listing(&hex::octets(SAMPLE)), SAMPLE_LISTING.into(), || SAMPLE.into())?;
-    same(swap::listing(&hex::octets(COMBINING_SAMPLE)), COMBINING_LISTING.into(), || {
-        COMBINING_SAMPLE.into()
-    })?;
-    for (file, offset) in FAULTY_FILES {
-        same(swap::listing(&hex::octets(file)), format!("refused 18 at {offset}\n"), || file.into())?;
+    let listings =
+        [(SAMPLE, SAMPLE_LISTING), (COMBINING_SAMPLE, COMBINING_LISTING), (LONG_SAMPLE, LONG_LISTING)];
+    for (file, listing) in listings {
+        same(swap::listing(&hex::octets(file)), listing.into(), || file.into())?;
     }
+    for (file, item, offset) in FAULTY_FILES {
+        let octets = hex::octets(file);
+        same(swap::read(&octets), Err(Fault { item, offset }), || file.into())?;
+        same(swap::listing(&octets), format!("refused 18 at {offset}\n"), || file.into())?;
+    }
+    let curve = [hex::octets("01 112233445566 0C 02 8020"), vec![0xFF; 4_096]].concat();
+    let line = "records 1\n112233445566 0C long octets 4096\n";
+    same(swap::listing(&curve), line.into(), || "a curve of 4096 octets".into())?;
     same(swap::listing(&[0; 65_536]), "refused 18 at 1\n".into(), || "65536 zeros".into())?;
     same(swap::listing(&[0; 65_537]), "refused 18 at 65536\n".into(), || "65537 zeros".into())?;
-    Ok(FAULTY_FILES.len() + 4)
+    Ok(listings.len() + FAULTY_FILES.len() + 3)
 }
 
 /// The writer: 18 with the reader's offset, even where the buffer is too short as well; the buffer is kept.
@@ -185,17 +266,23 @@ pub fn swap_writer() -> Result<usize, Disagreement> {
     let short = |count: usize| {
         long(count).into_iter().map(|record| swap::Record { data: vec![], ..record }).collect()
     };
-    let refused = |offset: usize| Written::Refused(18, Some(Fault(offset)));
-    let rows: [(Vec<swap::Record>, Written); 9] = [
-        (vec![], Written::Refused(17, None)),
-        (vec![record(1, RAW, 0)], Written::Refused(17, None)),
-        (vec![record(1, RAW, 0), record(1, RAW, 0)], refused(10)),
-        (vec![record(1, 2, 0)], refused(8)),
-        (vec![record(1, RAW, 117)], refused(9)),
-        (vec![record(1, LABEL, 1)], refused(10)),
-        (short(4096), Written::Refused(17, None)),
-        (short(4097), refused(0)),
-        ([vec![record(1, 2, 0)], long(525)].concat(), refused(65_536)),
+    let refused = |item: Item, offset: usize| Written::Refused(18, Some(Fault { item, offset }));
+    let accepted = Written::Refused(17, None);
+    let rows: [(Vec<swap::Record>, Written); 14] = [
+        (vec![], accepted),
+        (vec![record(1, RAW, 0)], accepted),
+        (vec![record(1, RAW, 0), record(1, RAW, 0)], refused(Item::AddressWithTab, 10)),
+        (vec![record(1, 3, 0)], refused(Item::Kind, 8)),
+        (vec![record(1, RAW, 117)], refused(Item::Length, 9)),
+        (vec![record(1, LABEL, 117)], refused(Item::Length, 9)),
+        (vec![record(1, LABEL, 1)], refused(Item::Data, 10)),
+        (vec![record(1, LONG, 0)], accepted),
+        (vec![record(1, LONG, 117)], accepted),
+        (vec![record(1, LONG, 4096)], accepted),
+        (vec![record(1, LONG, 4097)], refused(Item::Length, 9)),
+        (short(4096), accepted),
+        (short(4097), refused(Item::Count, 0)),
+        ([vec![record(1, 3, 0)], long(525)].concat(), refused(Item::File, 65_536)),
     ];
     for (row, (records, expected)) in rows.iter().enumerate() {
         same(swap::write(records, &mut []), *expected, || format!("writer row {row}"))?;
@@ -234,14 +321,25 @@ pub fn random_records(rng: &mut Rng) -> Vec<swap::Record> {
     let mut ads = [0; 6];
     for tab in 0..rng.below(6) as u8 {
         ads[3 + rng.below(3)] += 1;
-        let label = rng.once_in(2);
+        let kind = rng.pick(&[RAW, LABEL, LABEL, LONG]);
         let octets = rng.below(20);
         // So many that a label has 116 octets at most.
-        let characters = rng.below(116 / random_text::LONGEST_CHARACTER + 1);
-        let data = if label { random_text::well_formed(rng, characters) } else { rng.octets(octets) };
-        records.push(swap::Record { ads, tab, kind: if label { LABEL } else { RAW }, data });
+        let characters = rng.below(LONGEST_DATA / random_text::LONGEST_CHARACTER + 1);
+        let data = match kind {
+            LABEL => random_text::well_formed(rng, characters),
+            LONG if rng.once_in(6) => random_curve(rng, LONGEST_CURVE),
+            _ => rng.octets(octets),
+        };
+        records.push(swap::Record { ads, tab, kind, data });
     }
     records
+}
+
+/// Data longer than other kinds take, of a length within a limit or about one at which a form or a rule ends.
+pub fn random_curve(rng: &mut Rng, longest: usize) -> Vec<u8> {
+    let any = LONGEST_DATA + 1 + rng.below(longest - LONGEST_DATA);
+    let count = rng.pick(&[any, any, 117, 127, 128, LONGEST_CURVE - 1, LONGEST_CURVE, longest]);
+    rng.octets(count)
 }
 
 /// A receiver, and the steps it was taken through.

@@ -5,7 +5,7 @@ use crate::frame::{self, Address, Block, Number};
 use crate::hex;
 use crate::listing::frame_line;
 use crate::record::{Record, LABEL, RAW};
-use crate::swap;
+use crate::swap::{self, LONG};
 use crate::tool::{Outcome, Request, Tool};
 use crate::utf8::{self, Characters, Fit, Octets};
 
@@ -16,6 +16,13 @@ const WRONG_KEY: Block = [0x0E, 0x32, 0x92, 0x32, 0xEA, 0x6D, 0x0D, 0x73];
 const NEIGHBOURS_KEY: Block = [0x01, 0x23, 0x45, 0x67, 0x89, 0xAB, 0xCD, 0xEF];
 const NA1: Block = [0x01, 0x23, 0x45, 0x67, 0x89, 0xAB, 0xCD, 0xEF];
 const NA2: Block = [0xFE, 0xDC, 0xBA, 0x98, 0x76, 0x54, 0x32, 0x10];
+
+/// The TAB of the logger's curve in the swap file; the flat's cards have no such record.
+const CURVE: u8 = 0x03;
+/// The meter's index this morning, in Wh, which TAB 01 of the old card holds and the curve ends with.
+const INDEX: u32 = 100_000;
+const HALF_HOURS: u32 = 48;
+const PER_HALF_HOUR: u32 = 250;
 
 /// The words of 01's table, Numbers handed back.
 fn words(number: Number) -> &'static str {
@@ -71,7 +78,7 @@ fn card(ads: Address, key: Block, records: &[Record]) -> Card {
 
 fn old_card() -> Card {
     let records = [
-        raw(0x01, 4, &[0x00, 0x01, 0x86, 0xA0]),
+        raw(0x01, 4, &INDEX.to_be_bytes()),
         raw(0x02, 8, &[0x06, 0x17, 0x21, 0x0A]),
         // 02, E1: é as e and U+0301, so that these are the three characters that the new card takes.
         text(0x0A, 16, 16, "Zoe\u{301}"),
@@ -91,11 +98,20 @@ fn neighbours() -> [Card; 2] {
     [card(NEIGHBOURS[0], NEIGHBOURS_KEY, &first), card(NEIGHBOURS[1], NEIGHBOURS_KEY, &second)]
 }
 
-/// `raw octets N DATA` or `label octets N characters M "TEXT"`.
+/// 02, E10: the logger's curve, the index at each half hour up to this morning, three octets each, the most
+/// significant first.
+pub fn curve() -> Vec<u8> {
+    let index = |half_hour: u32| INDEX - PER_HALF_HOUR * (HALF_HOURS - 1 - half_hour);
+    (0..HALF_HOURS).flat_map(|half_hour| index(half_hour).to_be_bytes()[1..].to_vec()).collect()
+}
+
+/// `raw octets N DATA`, `label octets N characters M "TEXT"`, or `long octets N`, whose data would fill the page.
 fn described(kind: u8, data: &[u8]) -> String {
     let octets = data.len();
-    if kind == RAW {
-        return format!("raw octets {octets} {}", hex::text(data));
+    match kind {
+        RAW => return format!("raw octets {octets} {}", hex::text(data)),
+        LONG => return format!("long octets {octets}"),
+        _ => {}
     }
     let Characters(characters) = utf8::characters(data).expect("a label is well-formed");
     let text = std::str::from_utf8(data).expect("a label is well-formed");
@@ -229,6 +245,14 @@ impl Day {
         }
     }
 
+    /// The flat's logger hands its curve over, and it goes into its place in the list.
+    fn take_curve(&mut self, list: &mut Vec<swap::Record>) {
+        let data = curve();
+        self.say(&format!("curve TAB {CURVE:02X} {}", described(LONG, &data)));
+        list.push(swap::Record { ads: FLAT, tab: CURVE, kind: LONG, data });
+        list.sort_by_key(|record| (record.ads, record.tab));
+    }
+
     fn say_file(&mut self, file: &[u8]) {
         self.say(&format!("file  octets {}   | {}", file.len(), spaced(file)));
         for record in swap::read(file).expect("a good swap file") {
@@ -275,13 +299,15 @@ pub fn played() -> String {
     let mut morning = vec![];
     day.hour("07:00 the fitter reads the old card");
     day.read(&mut morning, FLAT, &[0x01, 0x02, 0x0A, 0x0B], Some(0x0A));
+    day.take_curve(&mut morning);
 
     day.hour("10:00 the fitter programs the new card from the swap file");
     let morning = written(&morning);
     day.say_file(&morning);
     day.cards[0] = new_card();
-    for record in swap::read(&morning).expect("a good swap file") {
-        let data = day.fit(&record);
+    let records = swap::read(&morning).expect("a good swap file");
+    for record in records.iter().filter(|record| record.kind != LONG) {
+        let data = day.fit(record);
         if record.tab == 0x0A {
             day.program(record.tab, &data, WRONG_KEY);
         }
@@ -299,10 +325,10 @@ pub fn played() -> String {
     let noon = written(&noon);
     day.say_file(&noon);
     let noon = swap::read(&noon).expect("a good swap file");
-    for old in swap::read(&morning).expect("a good swap file") {
-        let new = noon.iter().find(|new| (new.ads, new.tab) == (old.ads, old.tab)).expect("a record of the flat");
-        let sides = (described(old.kind, &old.data), described(new.kind, &new.data));
-        day.say(&format!("TAB {:02X} old {}   | new {}", old.tab, sides.0, sides.1));
+    for old in records {
+        let new = noon.iter().find(|new| (new.ads, new.tab) == (old.ads, old.tab));
+        let new = new.map_or("none".to_string(), |new| described(new.kind, &new.data));
+        day.say(&format!("TAB {:02X} old {}   | new {new}", old.tab, described(old.kind, &old.data)));
     }
     day.text
 }

@@ -57,6 +57,19 @@ extern "C" {
         from: *mut usize,
         length: *mut usize,
     ) -> u8;
+    fn propolisk_swap_next_to_program(
+        file: *const u8,
+        count: usize,
+        station: *const Address,
+        at: *mut usize,
+        left: *mut usize,
+        found: *mut u8,
+        ads: *mut Address,
+        tab: *mut u8,
+        kind: *mut u8,
+        from: *mut usize,
+        length: *mut usize,
+    ) -> u8;
     fn propolisk_swap_write(
         heads: *const u8,
         heads_count: usize,
@@ -113,6 +126,25 @@ pub fn next_for(file: &mut Lent, station: &Address, cells: &mut Cells) -> u8 {
     let count = file.count();
     unsafe {
         propolisk_swap_next_for(
+            file.pointer(),
+            count,
+            station,
+            &mut cells.at,
+            &mut cells.left,
+            &mut cells.found,
+            &mut cells.ads,
+            &mut cells.tab,
+            &mut cells.kind,
+            &mut cells.from,
+            &mut cells.length,
+        )
+    }
+}
+
+pub fn next_to_program(file: &mut Lent, station: &Address, cells: &mut Cells) -> u8 {
+    let count = file.count();
+    unsafe {
+        propolisk_swap_next_to_program(
             file.pointer(),
             count,
             station,

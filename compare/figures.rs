@@ -2,13 +2,15 @@
 //! Built and run by `compare/figures`, not by the gate. What is measured is asserted to agree.
 
 #[cfg(part_before)]
-use crate::before;
+use crate::{before, before_swap};
 use crate::ffi::{self, Lent};
+use crate::ffi_swap;
 use crate::figures_block;
 use crate::figures_card;
 use crate::figures_primitives;
 use crate::figures_receiver;
 use crate::figures_stack;
+use crate::figures_swap;
 use crate::rng::Rng;
 use crate::utf8::{Characters, Octets};
 use crate::vectors::library_fit;
@@ -27,6 +29,7 @@ pub struct Calls {
     pub label_fit: fn(&mut Lent, (usize, usize), &mut (usize, usize)) -> u8,
     pub card_setup: fn(&mut Lent, &mut Lent, &mut Lent, u8, &mut Lent) -> u8,
     pub card_step_octet: fn(&mut Lent, u8, &mut Lent, &mut Lent, &mut usize) -> u8,
+    pub swap_verdict: fn(&mut Lent, &mut usize, &mut usize) -> u8,
 }
 
 /// Ours first; then, where they are built in, those of an earlier revision.
@@ -36,6 +39,7 @@ pub const CALLS: &[Calls] = &[
         label_fit: ffi::primitives::label_fit,
         card_setup: ffi::card::setup,
         card_step_octet: ffi::card::step_octet,
+        swap_verdict: ffi_swap::verdict,
     },
     #[cfg(part_before)]
     Calls {
@@ -43,6 +47,7 @@ pub const CALLS: &[Calls] = &[
         label_fit: before::primitives::label_fit,
         card_setup: before::card::setup,
         card_step_octet: before::card::step_octet,
+        swap_verdict: before_swap::verdict,
     },
 ];
 
@@ -144,4 +149,5 @@ pub fn print(rng: &mut Rng) {
     fittings(rng, "fitting, 116 octets with combining marks", DECOMPOSED, &CALLS[..1]);
     figures_card::print(rng);
     figures_receiver::print(rng);
+    figures_swap::print(rng);
 }

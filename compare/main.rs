@@ -24,6 +24,7 @@ mod hex;
 mod histories;
 mod keys;
 mod listing;
+mod long_records;
 mod number;
 mod programs;
 mod random_frames;
@@ -49,6 +50,10 @@ mod wire;
 #[allow(dead_code, unused_doc_comments)]
 #[path = "../target/before/ffi.rs"]
 mod before;
+#[cfg(part_before)]
+#[allow(dead_code)]
+#[path = "../target/before/ffi_swap.rs"]
+mod before_swap;
 #[cfg(part_card)]
 mod card_calls;
 #[cfg(part_card)]
@@ -78,6 +83,8 @@ mod figures_programs;
 mod figures_receiver;
 #[cfg(part_figures)]
 mod figures_stack;
+#[cfg(part_figures)]
+mod figures_swap;
 #[cfg(part_frames)]
 mod frames;
 #[cfg(part_primitives)]
@@ -210,9 +217,11 @@ fn self_tests(rng: &mut Rng, cases: usize) -> bool {
         && tell("label rows", bench::labels())
         && tell("data limit rows", bench::data_limits())
         && tell("numbers", bench::numbers())
+        && tell("numbers about powers of two, every form", bench::number_forms())
         && tell("swap files", bench::swap_files())
         && tell("swap writer rows", bench::swap_writer())
         && tell("swap file laws", bench::swap_laws(rng))
+        && tell("swap files, the reader before E10", long_records::old_reader(rng, cases))
         && tell("receiving rows", bench::receiving())
         && tell("card setup rows", bench_card::setups())
         && tell("card setup rows, keys", bench_card::setup_keys())

@@ -5,6 +5,7 @@ use crate::des;
 use crate::frame::{self, Block};
 use crate::hex;
 use crate::listing;
+use crate::long_records;
 use crate::random_frames;
 use crate::record::RAW;
 use crate::report::{same, Case, Disagreement};
@@ -118,11 +119,13 @@ pub fn des_vectors(rng: &mut Rng, cases: usize) -> Result<usize, Disagreement> {
     Ok(tried)
 }
 
-/// 01's file, a file with E1's labels, a faulty file of each item, 4,096 records, files about the longest
-/// that is taken, then random files: good, with a bit turned, cut, lengthened, or with two records exchanged.
+/// 01's file, files with E1's labels and E10's long records, a faulty file of each item, 4,096 records, files
+/// about the longest that is taken, then random files: good, with a bit turned, cut, lengthened, or with two
+/// records exchanged.
 pub fn swaplist(rng: &mut Rng, cases: usize) -> Result<usize, Disagreement> {
-    let mut files: Vec<Vec<u8>> = bench::FAULTY_FILES.iter().map(|(file, _)| hex::octets(file)).collect();
-    files.extend([bench::SAMPLE, bench::COMBINING_SAMPLE].map(hex::octets));
+    let mut files: Vec<Vec<u8>> = bench::FAULTY_FILES.iter().map(|(file, _, _)| hex::octets(file)).collect();
+    files.extend([bench::SAMPLE, bench::COMBINING_SAMPLE, bench::LONG_SAMPLE].map(hex::octets));
+    files.extend(long_records::edges().iter().map(|edge| swap::encode(&edge.records)));
     for (count, length) in [(4_096, 0), (4_096, 6), (4_097, 0), (520, 116), (521, 116)] {
         files.push(swap::encode(&rising(count, length)));
     }
@@ -152,7 +155,8 @@ pub fn full() -> Vec<swap::Record> {
     records
 }
 
-fn random_file(rng: &mut Rng) -> Vec<u8> {
+/// A file, damaged once in most of the cases.
+pub fn random_file(rng: &mut Rng) -> Vec<u8> {
     let mut records = bench::random_records(rng);
     if records.len() > 1 && rng.once_in(8) {
         records.swap(0, 1);

@@ -1,18 +1,19 @@
-//! Our swap file calls beside the model: the verdict, the cursor, a station's records, the writer and the
-//! list, on good and damaged files.
+//! Our swap file calls beside the model: the verdict, the cursor, a station's records, those to program, the
+//! writer and the list, on good and damaged files.
 
 use crate::bench;
 use crate::ffi_swap::{self as ours, Added, Cells};
 use crate::ffi::Lent;
 use crate::frame::Address;
 use crate::hex;
+use crate::long_records;
 use crate::number;
 use crate::programs::{full, rising};
 use crate::random_text;
 use crate::record::{LABEL, RAW};
 use crate::report::{same, Case, Disagreement};
 use crate::rng::Rng;
-use crate::swap::{self, Fault, Record};
+use crate::swap::{self, Record, LONG, LONGEST_CURVE, LONGEST_FILE};
 
 const HEADS: usize = 40_960;
 const CONTENTS: usize = 65_536;
@@ -20,16 +21,18 @@ const CONTENTS: usize = 65_536;
 /// What cells hold before a call.
 const BEFORE: usize = 777;
 
-/// A record that keeps the rules or breaks one of them: a bad kind, data over 116 octets, ill-formed text.
+/// A record that keeps the rules or breaks one of them: a bad kind, data over 116 octets or, in a long record,
+/// over 4,096, ill-formed text. Few are longer than 116, so that a run stays short.
 fn record(rng: &mut Rng) -> Record {
-    let (kind, count) = (rng.pick(&[RAW, LABEL]), rng.below(20));
+    let (kind, count) = (rng.pick(&[RAW, LABEL, LABEL, LONG]), rng.below(20));
     let data = if kind == LABEL { random_text::well_formed(rng, count) } else { rng.octets(count) };
     let ads = [0, 0, 0, rng.below(2) as u8, rng.below(3) as u8, rng.below(3) as u8];
     let mut record = Record { ads, tab: rng.below(4) as u8, kind, data };
     match rng.below(24) {
-        0 => record.kind = rng.pick(&[2, 3, 128, 255]),
+        0 => record.kind = rng.pick(&[3, 4, 128, 130, 255]),
         1 => record.data = vec![b'a'; rng.pick(&[115, 116, 117, 128, 300])],
         2 => record.data = rng.pick(&random_text::ILL_FORMED).to_vec(),
+        3 => (record.kind, record.data) = (LONG, bench::random_curve(rng, LONGEST_CURVE + 1)),
         _ => {}
     }
     record
@@ -58,10 +61,9 @@ fn rank(record: &Record) -> (Address, u8) {
     (record.ads, record.tab)
 }
 
-/// A file, damaged once or twice in about half of the cases: cut, lengthened, an octet altered, or the count
-/// in a longer form.
-fn file(rng: &mut Rng) -> Vec<u8> {
-    let mut file = swap::encode(&records(rng));
+/// A file, damaged once or twice in about half of the cases: cut, lengthened, an octet altered, at times to a
+/// kind, or the count in a longer form.
+fn damaged(rng: &mut Rng, mut file: Vec<u8>) -> Vec<u8> {
     for _ in 0..rng.below(3) {
         let place = rng.below(file.len() + 1);
         match rng.below(8) {
@@ -74,6 +76,7 @@ fn file(rng: &mut Rng) -> Vec<u8> {
             }
             4 if place < file.len() => file[place] ^= 1 << rng.below(8),
             5 if place < file.len() => file[place] = rng.octet(),
+            6 if place < file.len() => file[place] = rng.pick(&[RAW, LABEL, LONG, 3]),
             _ => {}
         }
     }
@@ -86,7 +89,7 @@ fn verdict_case(file: &[u8]) -> Case {
     let number = ours::verdict(&mut lent, &mut records, &mut offset);
     let expected = match swap::read(file) {
         Ok(list) => (0, list.len(), BEFORE),
-        Err(Fault(offset)) => (18, BEFORE, offset),
+        Err(fault) => (18, BEFORE, fault.offset),
     };
     same(
         (number, records, offset, lent.still_holds(file)),
@@ -99,29 +102,57 @@ fn cells(at: usize, left: usize) -> Cells {
     Cells { at, left, found: 9, ads: [0xEE; 6], tab: 0xEE, kind: 0xEE, from: BEFORE, length: BEFORE }
 }
 
-/// A call that asks for a record: at the cursor, or for a station from the cursor on. Gives the cells after
-/// it.
-fn next_case(file: &[u8], before: &Cells, station: Option<Address>) -> Result<Cells, Disagreement> {
+/// The calls that ask for a record from a cursor on: any, one of a station, one to program a station with.
+#[derive(Clone, Copy, Debug)]
+enum Call {
+    Next,
+    For(Address),
+    ToProgram(Address),
+}
+
+impl Call {
+    /// All three for one station.
+    fn all(station: Address) -> [Call; 3] {
+        [Call::Next, Call::For(station), Call::ToProgram(station)]
+    }
+
+    /// Whether the call gives this record, and does not pass over it; 02, E10: "The tool passes over long
+    /// records when it programs".
+    fn gives(self, record: &Record) -> bool {
+        match self {
+            Call::Next => true,
+            Call::For(station) => record.ads == station,
+            Call::ToProgram(station) => record.ads == station && [RAW, LABEL].contains(&record.kind),
+        }
+    }
+
+    fn make(self, file: &mut Lent, cells: &mut Cells) -> u8 {
+        match self {
+            Call::Next => ours::next(file, cells),
+            Call::For(station) => ours::next_for(file, &station, cells),
+            Call::ToProgram(station) => ours::next_to_program(file, &station, cells),
+        }
+    }
+}
+
+/// A call that asks for a record. Gives the cells after it.
+fn next_case(file: &[u8], before: &Cells, call: Call) -> Result<Cells, Disagreement> {
     let (mut lent, mut after) = (Lent::new(file), before.clone());
-    let number = match station {
-        Some(station) => ours::next_for(&mut lent, &station, &mut after),
-        None => ours::next(&mut lent, &mut after),
-    };
-    let expected = expected_next(file, before, station);
+    let number = call.make(&mut lent, &mut after);
+    let expected = expected_next(file, before, call);
     let gave = (number, after.clone(), lent.still_holds(file));
-    same(gave, (expected.0, expected.1, true), || format!("{} {before:?} {station:?}", hex::text(file)))?;
+    same(gave, (expected.0, expected.1, true), || format!("{} {before:?} {call:?}", hex::text(file)))?;
     Ok(after)
 }
 
-/// The first record from the cursor on that is for the station, if one is asked for. At the end, and at 18,
-/// only the mark changes.
-fn expected_next(file: &[u8], before: &Cells, station: Option<Address>) -> (u8, Cells) {
+/// The first record from the cursor on that the call gives. At the end, and at 18, only the mark changes.
+fn expected_next(file: &[u8], before: &Cells, call: Call) -> (u8, Cells) {
     let nothing = Cells { found: 0, ..before.clone() };
     let (mut at, mut left) = (before.at, before.left);
     while left > 0 {
         let Some((record, end)) = swap::record_at(file, at) else { return (18, nothing) };
         (at, left) = (end, left - 1);
-        if station.is_none_or(|station| station == record.ads) {
+        if call.gives(&record) {
             let length = record.data.len();
             let Record { ads, tab, kind, .. } = record;
             return (0, Cells { at, left, found: 1, ads, tab, kind, from: end - length, length });
@@ -137,7 +168,7 @@ fn start_case(file: &[u8]) -> Result<Option<Cells>, Disagreement> {
     let number = ours::start(&mut lent, &mut at, &mut left, &mut offset);
     let expected = match swap::read(file) {
         Ok(list) => (0, number::shortest_form(list.len()).len(), list.len(), BEFORE),
-        Err(Fault(offset)) => (18, BEFORE, BEFORE, offset),
+        Err(fault) => (18, BEFORE, BEFORE, fault.offset),
     };
     same(
         ((number, at, left, offset), lent.still_holds(file)),
@@ -147,25 +178,35 @@ fn start_case(file: &[u8]) -> Result<Option<Cells>, Disagreement> {
     Ok((number == 0).then(|| cells(at, left)))
 }
 
-/// From the start to the end: every record of an accepted file, and of a station its own and no others. From a
-/// cursor that no start gave, as far as records stand.
-fn walk(file: &[u8], station: Option<Address>) -> Result<usize, Disagreement> {
+/// From the start to the end: of an accepted file exactly the records that the call gives, and no more steps
+/// than these and one for the end. From a cursor that no start gave, as far as records stand.
+fn walk(file: &[u8], call: Call) -> Result<usize, Disagreement> {
     let first = start_case(file)?;
-    let (mut here, mut steps, mut seen) = (first.clone().unwrap_or(cells(1, 20)), 0, vec![]);
-    while steps < 20 {
-        let after = next_case(file, &here, station)?;
-        steps += 1;
+    let (mut here, mut seen) = (first.clone().unwrap_or(cells(1, 20)), vec![]);
+    loop {
+        let after = next_case(file, &here, call)?;
         if after.found == 0 {
             break;
         }
         seen.push((after.ads, after.tab));
         here = after;
     }
+    let steps = seen.len() + 1;
     if first.is_some() {
         let list = swap::read(file).expect("a file with a first cursor");
-        let own = |record: &&Record| station.is_none_or(|station| station == record.ads);
-        let expected: Vec<(Address, u8)> = list.iter().filter(own).map(rank).collect();
-        same(seen, expected, || format!("{} {station:?}", hex::text(file)))?;
+        let given: Vec<(Address, u8)> = list.iter().filter(|record| call.gives(record)).map(rank).collect();
+        same(seen, given, || format!("{} {call:?}", hex::text(file)))?;
+    }
+    Ok(steps)
+}
+
+/// The calls in any order, each from the cursor that the one before it left.
+fn mixed_walk(rng: &mut Rng, file: &[u8], station: Address) -> Result<usize, Disagreement> {
+    let (first, mut steps) = (start_case(file)?, 0);
+    let mut here = first.unwrap_or(cells(1, 20));
+    while here.found != 0 {
+        here = next_case(file, &here, rng.pick(&Call::all(station)))?;
+        steps += 1;
     }
     Ok(steps)
 }
@@ -181,19 +222,59 @@ fn refused_starts() -> Result<usize, Disagreement> {
     Ok(files.len())
 }
 
-pub fn reading(rng: &mut Rng, cases: usize) -> Result<usize, Disagreement> {
-    let mut tried = refused_starts()?;
-    while tried < cases {
-        let file = file(rng);
+/// As many records as a file can have, long but for the last, so that a call passes over all others at once.
+fn long_but_the_last() -> Result<usize, Disagreement> {
+    let mut records = rising(4_096, 0);
+    let (last, others) = records.split_last_mut().expect("records");
+    others.iter_mut().for_each(|record| record.kind = LONG);
+    let station = last.ads;
+    walk(&swap::encode(&records), Call::ToProgram(station))
+}
+
+/// E10's files: the verdict, and every walk for each station and for one that has no record.
+fn long_files() -> Result<usize, Disagreement> {
+    let mut tried = long_but_the_last()?;
+    for edge in long_records::edges() {
+        let file = swap::encode(&edge.records);
         verdict_case(&file)?;
-        let station = swap::record_at(&file, 1).map_or([0, 0, 0, 0, 1, 1], |(record, _)| record.ads);
-        tried += 1 + walk(&file, None)? + walk(&file, Some(station))?;
-        let anywhere = rng.below(file.len() + 2);
-        let at = rng.pick(&[anywhere, file.len(), usize::MAX]);
-        let left = rng.pick(&[0, 1, 2, usize::MAX]);
-        next_case(&file, &cells(at, left), None)?;
-        next_case(&file, &cells(at, left), Some(station))?;
-        tried += 2;
+        tried += 1;
+        for station in [bench::ADDRESS, bench::FOREIGN, [0; 6]] {
+            for call in Call::all(station) {
+                tried += walk(&file, call)?;
+            }
+        }
+    }
+    Ok(tried)
+}
+
+/// A random file: its verdict, walks, and calls from a cursor that no start gave; and what the reader before
+/// E10 makes of it, damaged and not.
+fn random_case(rng: &mut Rng) -> Result<usize, Disagreement> {
+    let records = records(rng);
+    let file = swap::encode(&records);
+    if swap::read(&file).is_ok() {
+        long_records::met_by_old_reader(rng, &records)?;
+    }
+    let file = damaged(rng, file);
+    long_records::read_as_before(&file)?;
+    verdict_case(&file)?;
+    let station = swap::record_at(&file, 1).map_or([0, 0, 0, 0, 1, 1], |(record, _)| record.ads);
+    let anywhere = rng.below(file.len() + 2);
+    let at = rng.pick(&[anywhere, file.len(), usize::MAX]);
+    let left = rng.pick(&[0, 1, 2, usize::MAX]);
+    let mut tried = 1 + mixed_walk(rng, &file, station)?;
+    for call in Call::all(station) {
+        tried += walk(&file, call)? + 1;
+        next_case(&file, &cells(at, left), call)?;
+    }
+    Ok(tried)
+}
+
+pub fn reading(rng: &mut Rng, cases: usize) -> Result<usize, Disagreement> {
+    let mut tried = refused_starts()? + long_files()?;
+    let most = tried + cases;
+    while tried < most {
+        tried += random_case(rng)?;
     }
     Ok(tried)
 }
@@ -239,7 +320,7 @@ fn write_case(heads: &[u8], contents: &[u8], buffer: &[u8]) -> Case {
     let file = would_be(heads, contents);
     let mut after = buffer.to_vec();
     let expected = match swap::read(&file) {
-        Err(Fault(offset)) => (18, BEFORE, offset),
+        Err(fault) => (18, BEFORE, fault.offset),
         Ok(_) if buffer.len() < file.len() => (17, BEFORE, BEFORE),
         Ok(_) => {
             after[..file.len()].copy_from_slice(&file);
@@ -271,7 +352,8 @@ pub fn writing(rng: &mut Rng, cases: usize) -> Result<usize, Disagreement> {
         let room = rng.pick(&[whole, whole + 5, whole.saturating_sub(1), 0]);
         write_case(&heads, &contents, &rng.octets(room))?;
     }
-    let edges = [full(), rising(4_096, 0), rising(4_097, 0), rising(524, 116), rising(525, 116)];
+    let mut edges = vec![full(), rising(4_096, 0), rising(4_097, 0), rising(524, 116), rising(525, 116)];
+    edges.extend(long_records::edges().into_iter().map(|edge| edge.records));
     for (heads, contents) in edges.iter().map(|records| as_lent(records)) {
         write_case(&heads, &contents, &vec![0xEE; CONTENTS])?;
         write_case(&heads, &[&contents[..], &[0]].concat(), &[])?;
@@ -324,7 +406,7 @@ impl Making {
         let (heads, contents) = self.with(record);
         let number = ours::add(&mut self.heads, &mut self.contents, &mut self.counts, record, &mut offset);
         let expected = match swap::read(&would_be(&heads, &contents)) {
-            Err(Fault(offset)) => (18, counts, offset),
+            Err(fault) => (18, counts, fault.offset),
             Ok(list) => {
                 self.expected_heads[..heads.len()].copy_from_slice(&heads);
                 self.expected_contents[..contents.len()].copy_from_slice(&contents);
@@ -363,11 +445,28 @@ pub fn listing(rng: &mut Rng, cases: usize) -> Result<usize, Disagreement> {
         let (heads, contents) = as_lent(&kept);
         same(list.counts, (kept.len(), contents.len()), || "counts".into())?;
         same(list.heads.octets().starts_with(&heads), true, || "heads in order".into())?;
-        write_case(&heads, &contents, &[0; 4_096])?;
+        write_case(&heads, &contents, &[0; CONTENTS])?;
     }
-    tried += lists_of_no_call(rng)?;
-    for (records, offset) in [(rising(4_096, 0), 0), (full(), 65_536)] {
+    tried += lists_of_no_call(rng)? + lists_of_edges(rng)?;
+    let limits =
+        [(rising(4_096, 0), 0), (full(), LONGEST_FILE), (long_records::curves(LONGEST_FILE), LONGEST_FILE)];
+    for (records, offset) in limits {
         tried += up_to(rng, records, offset)?;
+    }
+    Ok(tried)
+}
+
+/// Each of E10's files made as a list, record by record; the last one is kept exactly if the file has no fault.
+fn lists_of_edges(rng: &mut Rng) -> Result<usize, Disagreement> {
+    let mut tried = 0;
+    for edge in long_records::edges() {
+        let mut list = Making::new(rng.octets(HEADS), rng.octets(CONTENTS), (0, 0));
+        let mut kept = true;
+        for record in &edge.records {
+            kept = list.add(&added(record.clone()))?;
+            tried += 1;
+        }
+        same(kept, edge.fault.is_none(), || format!("{:?}", edge.fault))?;
     }
     Ok(tried)
 }
@@ -399,7 +498,8 @@ fn up_to(rng: &mut Rng, records: Vec<Record>, offset: usize) -> Result<usize, Di
     }
     let more = Record { ads: [9; 6], tab: 0, kind: RAW, data: vec![] };
     let with: Vec<Record> = [&records[..], &[more.clone()]].concat();
-    same(swap::read(&swap::encode(&with)), Err(Fault(offset)), || "one more".into())?;
+    let refused = swap::read(&swap::encode(&with)).map_err(|fault| fault.offset);
+    same(refused, Err(offset), || "one more".into())?;
     same(list.add(&added(more))?, false, || "one more".into())?;
     Ok(records.len() + 1)
 }

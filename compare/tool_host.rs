@@ -3,13 +3,16 @@
 use crate::bench::{ADDRESS, KEY};
 use crate::card::Card;
 use crate::card_host::fresh_number;
+use crate::day;
 use crate::frame::{Block, Number};
 use crate::hex;
 use crate::record::{Record, LABEL, RAW};
-use crate::swap::{self, Fault, Written};
+use crate::swap::{self, Written, LONG};
 use crate::tool::{Outcome, Request, Tool};
 use crate::utf8::{self, Characters, Fit, Octets};
 
+/// The TAB of the logger's curve in the swap file; the cards have no such record.
+const CURVE: u8 = 0x05;
 const HOLDER: u8 = 0x0A;
 const INDEX: u8 = 0x0B;
 const UNKNOWN: u8 = 0x0C;
@@ -178,19 +181,29 @@ impl Host {
     }
 
     fn collect(&mut self, list: &mut Vec<swap::Record>, tab: u8, kind: u8) {
-        let read = self.ask(|host| host.read_once(tab));
-        let word = if read.is_ok() { "in" } else { "NOT in" };
-        if let Ok(data) = read {
-            list.push(swap::Record { ads: ADDRESS, tab, kind, data });
-            list.sort_by_key(|record| (record.ads, record.tab));
+        match self.ask(|host| host.read_once(tab)) {
+            Ok(data) => self.keep(list, swap::Record { ads: ADDRESS, tab, kind, data }),
+            Err(_) => self.say(&format!("  TAB {tab:02X} is NOT in the list")),
         }
-        self.say(&format!("  TAB {tab:02X} is {word} the list"));
+    }
+
+    fn keep(&mut self, list: &mut Vec<swap::Record>, record: swap::Record) {
+        self.say(&format!("  TAB {:02X} is in the list", record.tab));
+        list.push(record);
+        list.sort_by_key(|record| (record.ads, record.tab));
+    }
+
+    /// The logger beside the meter hands over its curve, which no card could hold.
+    fn take_curve(&mut self, list: &mut Vec<swap::Record>) {
+        let data = day::curve();
+        self.say(&format!("the logger's curve of {} octets", data.len()));
+        self.keep(list, swap::Record { ads: ADDRESS, tab: CURVE, kind: LONG, data });
     }
 
     fn verdict(&mut self, file: &[u8]) {
         let said = match swap::read(file) {
             Ok(records) => format!("{} records", records.len()),
-            Err(Fault(offset)) => format!("refused 18 at {offset}"),
+            Err(fault) => format!("refused 18 at {}", fault.offset),
         };
         self.say(&format!("its first {} octets: {said}", file.len()));
     }
@@ -225,6 +238,7 @@ pub fn printed() -> String {
     host.collect(&mut list, INDEX, RAW);
     host.collect(&mut list, HOLDER, LABEL);
     host.collect(&mut list, UNKNOWN, RAW);
+    host.take_curve(&mut list);
 
     let mut buffer = [0; 256];
     let Written::File(length) = swap::write(&list, &mut buffer) else { unreachable!("a good swap file") };
@@ -232,12 +246,16 @@ pub fn printed() -> String {
     host.say(&format!("swap file {}", hex::text(file)));
     host.verdict(file);
     host.verdict(&file[..length - 1]);
+    let records = swap::read(file).expect("a good swap file");
+    for swap::Record { tab, kind, data, .. } in &records {
+        host.say(&format!("  TAB {tab:02X} kind {kind} with {} octets", data.len()));
+    }
 
     host.card = card(NEW_LIMITS, "", "");
     host.say("the new card: setup 0");
     host.try_weak_key();
-    for record in swap::read(file).expect("a good swap file") {
-        host.program(&record);
+    for record in records.iter().filter(|record| record.kind != LONG) {
+        host.program(record);
     }
     host.display(HOLDER);
     host.display(INDEX);

@@ -20,6 +20,8 @@
 
 enum { ENQ = 0x01, REC = 0x03, AUT = 0x05, IB = 0x09, TRF = 0x0C, TRB = 0x0D };
 enum { STACK = 1 << 20, PAINT = 0xA5, TAB = 31 };
+/* The most curves of 4,096 octets that a swap file takes beside 32 labels of 116. */
+enum { MOST_CURVES = 14 };
 
 /* DES holds one round key at a time (document 02, E3). With an array of sixteen a block needed 260 octets. */
 enum { DES_STACK = 160 };
@@ -45,6 +47,7 @@ enum { DES_STACK = 160 };
     CALL(swap_start, PROPOLISK_SWAP_STACK)                                                                                                 \
     CALL(swap_next, PROPOLISK_SWAP_STACK)                                                                                                  \
     CALL(swap_next_for, PROPOLISK_SWAP_STACK)                                                                                              \
+    CALL(swap_next_to_program, PROPOLISK_SWAP_STACK)                                                                                       \
     CALL(swap_write, PROPOLISK_SWAP_STACK)                                                                                                 \
     CALL(swap_add, PROPOLISK_SWAP_STACK)                                                                                                   \
     CALL(crc_key, PROPOLISK_PRIMITIVES_STACK)                                                                                              \
@@ -64,11 +67,12 @@ static struct {
 static uint8_t stack[STACK] __attribute__((aligned(4096)));
 static uint8_t memory[PROPOLISK_CARD_MEMORY], entries[PROPOLISK_CARD_ENTRIES], reply[PROPOLISK_CARD_REPLY], data[PROPOLISK_CARD_DATA];
 static uint8_t tool[PROPOLISK_TOOL_MEMORY], frame[128], reading[116], wake, ended;
-static uint8_t heads[40960], contents[65536], file[65536], ads[6], tab, kind, block[8];
+static uint8_t heads[40960], contents[65536], file[65536], curve[4096], ads[6], tab, kind, block[8];
+static const uint8_t *added;
 static const uint8_t address[6] = {0x11, 0x22, 0x33, 0x44, 0x55, 0x66}, broadcast[6];
 static const uint8_t key[8] = {0x13, 0x34, 0x57, 0x79, 0x9B, 0xBC, 0xDF, 0xF1}, number[8], none[8];
 static uint8_t octet;
-static size_t length, frame_length, reading_length, records, contents_length, file_length, offset, at, left, from;
+static size_t length, frame_length, reading_length, records, contents_length, file_length, added_length, offset, at, left, from;
 static bool found;
 
 static void make_card(int call)
@@ -107,8 +111,11 @@ static void make_swap(int call)
     case swap_start: propolisk_swap_start(file, file_length, &at, &left, &offset); break;
     case swap_next: propolisk_swap_next(file, file_length, &at, &left, &found, ads, &tab, &kind, &from, &length); break;
     case swap_next_for: propolisk_swap_next_for(file, file_length, address, &at, &left, &found, ads, &tab, &kind, &from, &length); break;
+    case swap_next_to_program:
+        propolisk_swap_next_to_program(file, file_length, address, &at, &left, &found, ads, &tab, &kind, &from, &length);
+        break;
     case swap_write: propolisk_swap_write(heads, 10 * records, contents, contents_length, file, sizeof file, &file_length, &offset); break;
-    default: propolisk_swap_add(heads, contents, &records, &contents_length, address, tab, 1, data, sizeof data, &offset);
+    default: propolisk_swap_add(heads, contents, &records, &contents_length, address, tab, kind, added, added_length, &offset);
     }
 }
 
@@ -218,13 +225,21 @@ static void measure_tool(void)
 
 static void measure_swap(void)
 {
+    added = data, added_length = sizeof data, kind = PROPOLISK_SWAP_LABEL;
     for (tab = 0; tab < 32; tab++)
+        measure(swap_add);
+    added = curve, added_length = sizeof curve, kind = PROPOLISK_SWAP_LONG;
+    for (; tab < 32 + MOST_CURVES; tab++)
         measure(swap_add);
     measure(swap_write);
     measure(swap_verdict);
     measure(swap_start);
     measure(swap_next);
     measure(swap_next_for);
+    measure(swap_start);
+    do
+        measure(swap_next_to_program);
+    while (found);
 }
 
 static void measure_primitives(void)

@@ -1,7 +1,7 @@
-/* A fitter's program: the hand tool reads the records of an old card, keeps them in a swap file, and programs a new card from the file. The two
- * cards stand at the other end of the wire, in the same program. The wire bends a bit of one reply and loses another; a request that nobody
- * answered is made again, and every record arrives. A weak key is refused before anything is sent. It prints each frame, and the number that
- * each request ends with.
+/* A fitter's program: the hand tool reads the records of an old card, keeps them in a swap file beside a load curve that the flat's logger hands
+ * over, and programs a new card from the file. The two cards stand at the other end of the wire, in the same program. The wire bends a bit of one
+ * reply and loses another; a request that nobody answered is made again, and every record arrives. A weak key is refused before anything is sent.
+ * It prints each frame, and the number that each request ends with.
  *
  *   for archive in tool_exports swap_exports card_exports primitive_exports; do rt staticlib $archive; done
  *   cc -Iinclude examples/tool_host.c -Ltarget/staticlib -ltool_exports -lswap_exports -lcard_exports -lprimitive_exports -o target/tool_host
@@ -16,10 +16,10 @@
 #include <stdlib.h>
 #include <string.h>
 
-/* The TABs of the two records, and one that no card has. */
-enum { HOLDER = 0x0A, INDEX = 0x0B, UNKNOWN = 0x0C };
-/* The swap file's kinds are the card's. */
-enum { RAW = PROPOLISK_CARD_RAW, LABEL = PROPOLISK_CARD_LABEL };
+/* The TABs of the two records, one that no card has, and that of the curve. */
+enum { HOLDER = 0x0A, INDEX = 0x0B, UNKNOWN = 0x0C, CURVE = 0x05 };
+/* The curve: the meter's index in Wh at every half hour of a day, three octets each, most significant first. */
+enum { HALF_HOURS = 48, CURVE_OCTETS = 3 * HALF_HOURS, FIRST_INDEX = 88250, RISE = 250 };
 /* The tool's own address, and the most octets and characters of a holder on the new card. */
 enum { ADP = 1, HOLDER_OCTETS = 14, HOLDER_CHARACTERS = 20 };
 /* Numbers of the tool. 1 to LAST_BAD_FRAME: a bad frame was dropped, and the request goes on. SESSION_ENDED: nobody answered it. */
@@ -209,6 +209,23 @@ static void collect(uint8_t tab, uint8_t kind)
     printf("  TAB %02X is %s the list\n", tab, number == 0 ? "in" : "NOT in");
 }
 
+/* The logger hands over its curve, which no record of a card has room for. */
+static void collect_curve(void)
+{
+    uint8_t curve[CURVE_OCTETS];
+    size_t offset = 0;
+    for (int i = 0; i < HALF_HOURS; i++) {
+        const uint32_t index = FIRST_INDEX + RISE * i;
+        curve[3 * i] = (uint8_t)(index >> 16);
+        curve[3 * i + 1] = (uint8_t)(index >> 8);
+        curve[3 * i + 2] = (uint8_t)index;
+    }
+    printf("the logger's curve of %zu octets\n", sizeof curve);
+    uint8_t number =
+        propolisk_swap_add(heads, contents, &records, &contents_count, address, CURVE, PROPOLISK_SWAP_LONG, curve, sizeof curve, &offset);
+    printf("  TAB %02X is %s the list\n", CURVE, number == 0 ? "in" : "NOT in");
+}
+
 static void give_up(uint8_t number, size_t offset)
 {
     printf("the swap file is refused: %u at %zu\n", number, offset);
@@ -241,7 +258,7 @@ static void program_fitted(uint8_t tab, uint8_t kind, const uint8_t *octets, siz
 {
     size_t kept = count, characters = 0;
     uint8_t number = 0;
-    if (kind == LABEL)
+    if (kind == PROPOLISK_SWAP_LABEL)
         number = propolisk_label_fit(octets, count, HOLDER_OCTETS, HOLDER_CHARACTERS, &kept, &characters);
     if (number == 0)
         number = program_record(tab, octets, kept);
@@ -249,15 +266,33 @@ static void program_fitted(uint8_t tab, uint8_t kind, const uint8_t *octets, siz
 }
 
 /* Starting judges the file; on a file that it accepts, no record is refused. */
-static void program_from_file(void)
+static void start(size_t *at, size_t *left)
 {
-    size_t at, left, offset, from, length;
-    bool found = false;
-    uint8_t ads[6], tab, kind;
-    uint8_t number = propolisk_swap_start(file, file_length, &at, &left, &offset);
+    size_t offset = 0;
+    uint8_t number = propolisk_swap_start(file, file_length, at, left, &offset);
     if (number != 0)
         give_up(number, offset);
-    while (propolisk_swap_next_for(file, file_length, address, &at, &left, &found, ads, &tab, &kind, &from, &length) == 0 && found)
+}
+
+/* Every record of the file, curves too. */
+static void list_file(void)
+{
+    size_t at, left, from, length;
+    bool found = false;
+    uint8_t ads[6], tab, kind;
+    start(&at, &left);
+    while (propolisk_swap_next(file, file_length, &at, &left, &found, ads, &tab, &kind, &from, &length) == 0 && found)
+        printf("  TAB %02X kind %u with %zu octets\n", tab, kind, length);
+}
+
+/* Every record that goes onto the card: the curve is passed over. */
+static void program_from_file(void)
+{
+    size_t at, left, from, length;
+    bool found = false;
+    uint8_t ads[6], tab, kind;
+    start(&at, &left);
+    while (propolisk_swap_next_to_program(file, file_length, address, &at, &left, &found, ads, &tab, &kind, &from, &length) == 0 && found)
         program_fitted(tab, kind, file + from, length);
 }
 
@@ -292,10 +327,12 @@ int main(void)
     propolisk_tool_new(tool);
 
     set_up("the old card", 40, 40, "R\xC3\xA9sidence Pr\xC3\xA9 Fleuri", "000000042");
-    collect(INDEX, RAW);
-    collect(HOLDER, LABEL);
-    collect(UNKNOWN, RAW);
+    collect(INDEX, PROPOLISK_SWAP_RAW);
+    collect(HOLDER, PROPOLISK_SWAP_LABEL);
+    collect(UNKNOWN, PROPOLISK_SWAP_RAW);
+    collect_curve();
     write_file();
+    list_file();
     set_up("the new card", HOLDER_OCTETS, HOLDER_CHARACTERS, "", "");
     try_weak_key();
     program_from_file();
