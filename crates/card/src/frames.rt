@@ -19,7 +19,7 @@ use numbers::Octets;
 use records::{Cause, Found};
 
 // What the host lends with an octet besides the reply buffer: NA2, should the octet complete a REC.
-#[derive(Drop)]
+#[derive(Clone, Copy)]
 pub(crate) struct Lent {
     pub(crate) na2: [u8; NUMBER_WIDTH],
 }

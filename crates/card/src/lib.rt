@@ -1,3 +1,4 @@
+#![tactic(auto)]
 // The secondary station by value: its identity, its records, its exchange, and its receiver (01, The card).
 ghost use Rattle.std.specs.Prelude.{◌≡◌};
 ghost use Rattle.card.specs.Numbers.{answer_number};
@@ -18,14 +19,14 @@ use receiver::Receiver;
 use records::{Records, Refusal};
 
 // What setup gives a card besides its records; the key is as long as the numbers that it enciphers.
-#[derive(Drop)]
+#[derive(Clone, Copy)]
 pub struct Identity {
     pub address: [u8; ADDRESS_WIDTH],
     pub key: [u8; NUMBER_WIDTH],
 }
 
 // Whether an exchange waits: one does after a REC, with that frame's ADP and TAB and as many octets of DATA.
-#[derive(Drop)]
+#[derive(Clone, Copy)]
 pub enum Phase {
     Idle,
     Waiting { adp: u8, tab: u8, length: Octets },
@@ -33,14 +34,14 @@ pub enum Phase {
 
 // The DATA that waits are the first octets of content, and na2 is the number lent with the REC.
 // The other octets of content, and all of both while no exchange waits, are free.
-#[derive(Drop)]
+#[derive(Clone, Copy)]
 pub struct Exchange {
     pub phase: Phase,
     pub content: [u8; MOST_PROGRAMMED],
     pub na2: [u8; NUMBER_WIDTH],
 }
 
-#[derive(Drop)]
+#[derive(Clone, Copy)]
 pub struct Card {
     pub identity: Identity,
     pub records: Records,
@@ -49,7 +50,7 @@ pub struct Card {
 }
 
 // What the host is told: nothing, or why a frame, an address, data, a card, a cipher, a lent slice or a key is refused.
-#[derive(Drop)]
+#[derive(Clone, Copy)]
 pub enum Answer {
     Nothing,
     BadFrame(Fault),
@@ -62,14 +63,14 @@ pub enum Answer {
 }
 
 // The next card beside the answer.
-#[derive(Drop)]
+#[derive(Clone, Copy)]
 pub struct Answered {
     pub card: Card,
     pub answer: Answer,
 }
 
 // The next card beside the answer, and how many octets of the lent buffer are the reply frame: none where there is no reply.
-#[derive(Drop)]
+#[derive(Clone, Copy)]
 pub struct Stepped {
     pub card: Card,
     pub answer: Answer,

@@ -7,7 +7,7 @@ use frame::Command;
 use frame::sizes::ADDRESS_WIDTH;
 
 // What a card takes a good frame for: one of six, or none of its own.
-#[derive(Drop)]
+#[derive(Clone, Copy)]
 pub enum Taken {
     Enq,
     Rec,

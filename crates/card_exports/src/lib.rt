@@ -1,3 +1,4 @@
+#![tactic(auto)]
 // The card for C programs, over lent card memory. include/propolisk_card.h declares the calls.
 ghost use Rattle.std.specs.Prelude.{◌≡◌};
 ghost use Rattle.card.specs.Numbers.{answer_number};

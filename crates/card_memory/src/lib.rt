@@ -1,3 +1,4 @@
+#![tactic(auto)]
 // A card in lent memory, at fixed offsets (docs/MEMORY.md).
 pub mod layout;
 mod legibility;

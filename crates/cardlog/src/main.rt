@@ -1,3 +1,4 @@
+#![tactic(auto)]
 // Plays a recorded history on a card: reads a setup and calls from standard input, and prints what each call gave and what
 // the records hold at the end.
 mod calls;

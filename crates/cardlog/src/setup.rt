@@ -12,7 +12,7 @@ const STORAGE_AT: usize = 6;
 const ENTRY_SIZE: usize = STORAGE_AT + MOST_OCTETS;
 
 // Where the key, the records and the calls begin; the octet before the key is its length, that before the records their count.
-#[derive(Drop)]
+#[derive(Clone, Copy)]
 pub(crate) struct Offsets {
     pub(crate) key: usize,
     pub(crate) records: usize,

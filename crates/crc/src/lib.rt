@@ -1,3 +1,4 @@
+#![tactic(auto)]
 // The CRC of IEC 62056-3-1, Annex E: the check key of a list of octets and the receiver's test.
 ghost use Rattle.std.specs.Prelude.{◌≡◌};
 ghost use Rattle.crc.specs.AnnexE.{check_key, divides};

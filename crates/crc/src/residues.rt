@@ -4,7 +4,7 @@ ghost use Rattle.computed.specs.Steps.{value};
 ghost use Rattle.crc.specs.Residues.{folded, moved, parity_part, check_key_of, Represent};
 
 // A(X) by X^15 + X + 1 and, as a word with the same sum of coefficients, by X + 1.
-#[derive(Drop)]
+#[derive(Clone, Copy)]
 pub(crate) struct Residues {
     pub(crate) word: u64,
     pub(crate) parity: u64,

@@ -3,7 +3,7 @@ use crate::primary::{Primary, Stage};
 use crate::wire::{Damage, cards_hear, cards_leave};
 use card::Card;
 
-#[derive(Drop)]
+#[derive(Clone, Copy)]
 pub(crate) struct Bus {
     pub(crate) cards: [Card; 3],
     pub(crate) primary: Primary,

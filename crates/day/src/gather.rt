@@ -6,7 +6,7 @@ use swap_write::Written;
 use tool::Contents;
 
 // A list of records, and the two arrays that it is kept in.
-#[derive(Drop)]
+#[derive(Clone, Copy)]
 pub(crate) struct Gathered {
     list: RecordList,
     heads: [u8; 40960],
@@ -14,7 +14,7 @@ pub(crate) struct Gathered {
 }
 
 // A swap file: the first octets of an array.
-#[derive(Drop)]
+#[derive(Clone, Copy)]
 pub(crate) struct File {
     pub(crate) octets: [u8; 4096],
     pub(crate) length: usize,

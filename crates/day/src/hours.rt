@@ -15,7 +15,7 @@ pub(crate) const UNDAMAGED: usize = 255;
 const WRONG_KEY: [u8; 8] = [0x0E, 0x32, 0x92, 0x32, 0xEA, 0x6D, 0x0D, 0x73];
 
 // The bus after readings, and the records that were read.
-#[derive(Drop)]
+#[derive(Clone, Copy)]
 pub(crate) struct Readings {
     pub(crate) bus: Bus,
     pub(crate) gathered: Gathered,

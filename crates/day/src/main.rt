@@ -1,3 +1,4 @@
+#![tactic(auto)]
 // The fitter's day, played by our tool and our cards on one wire: docs/PROGRAMS.md tells it.
 mod curve;
 mod exchange;

@@ -10,7 +10,7 @@ use wake::Wake;
 const NA1: [u8; 8] = [0x01, 0x23, 0x45, 0x67, 0x89, 0xAB, 0xCD, 0xEF];
 
 // How far a request has come: a reply is awaited, a frame is to be sent, or the request has ended.
-#[derive(Drop)]
+#[derive(Clone, Copy)]
 pub(crate) enum Stage {
     Waiting,
     Speaking,
@@ -19,7 +19,7 @@ pub(crate) enum Stage {
 }
 
 // A tool with its ADP, how far its request has come, the frame that it sends, and the contents that it has read.
-#[derive(Drop)]
+#[derive(Clone, Copy)]
 pub(crate) struct Primary {
     pub(crate) tool: Tool,
     pub(crate) adp: u8,

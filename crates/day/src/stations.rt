@@ -22,7 +22,7 @@ pub(crate) fn address(last: u8) -> [u8; 6] {
 }
 
 // The limits of a record of the flat's new card; the character limit is of a label alone.
-#[derive(Drop)]
+#[derive(Clone, Copy)]
 pub(crate) struct Room {
     pub(crate) octets: Octets,
     pub(crate) characters: Characters,

@@ -11,7 +11,7 @@ const NA2: [u8; 8] = [0xFE, 0xDC, 0xBA, 0x98, 0x76, 0x54, 0x32, 0x10];
 pub(crate) const TOOL: usize = 3;
 
 // A frame on its way, from the station at a place: the first octets of an array. No octets where nobody speaks.
-#[derive(Drop)]
+#[derive(Clone, Copy)]
 pub(crate) struct Sent {
     pub(crate) octets: [u8; 128],
     pub(crate) length: usize,
@@ -19,21 +19,21 @@ pub(crate) struct Sent {
 }
 
 // What becomes of a reply on the wire: nothing, or the octet at an offset is damaged.
-#[derive(Drop)]
+#[derive(Clone, Copy)]
 pub(crate) enum Damage {
     None,
     At(usize),
 }
 
 // The cards after octets, and the reply of one of them.
-#[derive(Drop)]
+#[derive(Clone, Copy)]
 pub(crate) struct Cards {
     pub(crate) each: [Card; 3],
     pub(crate) reply: Sent,
 }
 
 // A card after an octet, and its reply: the first octets of an array.
-#[derive(Drop)]
+#[derive(Clone, Copy)]
 struct Heard {
     card: Card,
     octets: [u8; 128],

@@ -1,3 +1,4 @@
+#![tactic(auto)]
 // DES of FIPS 46-3 on one block of eight octets, both ways. The first octet of a key or a block has its bits 1 to 8.
 pub mod boxes;
 pub mod keys;

@@ -1,3 +1,4 @@
+#![tactic(auto)]
 // What each selection function of FIPS 46-3 selects, in the places where the permutation P puts it. A match of constants is kept as a static
 // table, where a const array would be built on the stack wherever it is named.
 ghost use Rattle.std.specs.Prelude.{◌≡◌, ◌<◌, get_or};

@@ -1,3 +1,4 @@
+#![tactic(auto)]
 // Where permuted choice 2 of FIPS 46-3 puts each part of C and D, with gaps between the blocks of six. A match of constants is kept as a static
 // table, where a const array would be built on the stack wherever it is named.
 ghost use Rattle.std.specs.Prelude.{◌≡◌, ◌<◌, get_or};

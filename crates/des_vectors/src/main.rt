@@ -1,3 +1,4 @@
+#![tactic(auto)]
 // Runs the DES vectors on standard input through the library, both ways. For each set it prints how many vectors it has and how many of them
 // came out right each way; a vector that did not has a line of its own, and so has a line that is no vector. A line `boxes` asks for the S-boxes.
 mod boxes;
@@ -13,7 +14,7 @@ use tally::Tally;
 use text::{put_hex, put_number, put_words};
 
 // What was found so far. The name of the set at hand is `size` characters of the input, from `name` on.
-#[derive(Drop)]
+#[derive(Clone, Copy)]
 struct Report {
     line: u64,
     name: usize,

@@ -3,7 +3,7 @@ use libc::STDOUT_FILENO;
 use numbers::Octets;
 use text::{put_number, put_words};
 
-#[derive(Drop)]
+#[derive(Clone, Copy)]
 pub(crate) struct Tally {
     pub(crate) vectors: u64,
     pub(crate) enciphered: u64,

@@ -16,28 +16,28 @@ use crate::sizes::{ADDRESS_WIDTH, ADS_AT, CRC_WIDTH, FIELDS_AT, LONGEST_FRAME, N
 use numbers::{Octets, table};
 
 // The check for 17: whether a buffer holds the longest frame.
-#[derive(Drop)]
+#[derive(Clone, Copy)]
 pub enum Capacity {
     Enough,
     Short,
 }
 
 // The check for 7: whether the command can have this much DATA.
-#[derive(Drop)]
+#[derive(Clone, Copy)]
 pub enum Amount {
     Within,
     Beyond,
 }
 
 // Why no frame was built.
-#[derive(Drop)]
+#[derive(Clone, Copy)]
 pub enum Refusal {
     Buffer,
     Data,
 }
 
 // A frame of this many octets, or none.
-#[derive(Drop)]
+#[derive(Clone, Copy)]
 pub enum Built {
     Frame(Octets),
     Refused(Refusal),

@@ -15,35 +15,35 @@ use crate::sizes::{COM_AT, CRC_WIDTH, LONGEST_FRAME, SHORTEST_FRAME};
 use numbers::{Octets, table};
 
 // The check for 1: the whole length that N states.
-#[derive(Drop)]
+#[derive(Clone, Copy)]
 pub enum Stated {
     Whole(Octets),
     Outside,
 }
 
 // The check for 3: whether a slice is as long as its N says.
-#[derive(Drop)]
+#[derive(Clone, Copy)]
 pub enum Extent {
     Exact,
     Other,
 }
 
 // The check for 2.
-#[derive(Drop)]
+#[derive(Clone, Copy)]
 pub enum CheckKey {
     Passes,
     Fails,
 }
 
 // The check for 5: whether the command can have this length. The check for 4 is `Lookup`.
-#[derive(Drop)]
+#[derive(Clone, Copy)]
 pub enum Span {
     Possible,
     Impossible,
 }
 
 // Why a frame is bad.
-#[derive(Drop)]
+#[derive(Clone, Copy)]
 pub enum Fault {
     OutOfRange,
     Crc,
@@ -52,7 +52,7 @@ pub enum Fault {
     Length,
 }
 
-#[derive(Drop)]
+#[derive(Clone, Copy)]
 pub enum Verdict {
     Good(Command),
     Refused(Fault),

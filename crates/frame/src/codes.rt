@@ -2,7 +2,7 @@
 ghost use Rattle.std.specs.Prelude.{◌≡◌};
 ghost use Rattle.frame.specs.Codes.{code_of, answer_of_lookup, command_of};
 
-#[derive(Drop)]
+#[derive(Clone, Copy)]
 pub enum Command {
     Enq,
     Dat,
@@ -23,7 +23,7 @@ pub enum Command {
 }
 
 // The check for 4: the command that a code names, if it names one.
-#[derive(Drop)]
+#[derive(Clone, Copy)]
 pub enum Lookup {
     Found(Command),
     Missing,

@@ -12,7 +12,7 @@ use crate::sizes::{ADDRESS_WIDTH, ADP_AT, ADS_AT, CRC_WIDTH, FIELDS_AT, NUMBER_W
 
 // What a frame carries beside its command and DATA. Addresses and numbers are in written order, the most significant octet first;
 // a field that the command does not carry is zero. announced is RSO's second ADS.
-#[derive(Drop)]
+#[derive(Clone, Copy)]
 pub struct Fields {
     pub ads: [u8; ADDRESS_WIDTH],
     pub adp: u8,
@@ -23,7 +23,7 @@ pub struct Fields {
 }
 
 // What a slice is as a whole frame, and its fields; they are zero where it is refused.
-#[derive(Drop)]
+#[derive(Clone, Copy)]
 pub struct Reading {
     pub verdict: Verdict,
     pub fields: Fields,

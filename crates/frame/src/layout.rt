@@ -10,7 +10,7 @@ use crate::sizes::{
 use numbers::Octets;
 
 // Whether a command has a field, and whether the field carries a value or is always zero.
-#[derive(Drop)]
+#[derive(Clone, Copy)]
 pub enum Presence {
     Absent,
     Zero,
@@ -18,7 +18,7 @@ pub enum Presence {
 }
 
 // ZA1, ZA2, TAB and RSO's second ADS, in this order, then DATA from least to most octets.
-#[derive(Drop)]
+#[derive(Clone, Copy)]
 pub struct Layout {
     pub za1: Presence,
     pub za2: Presence,
@@ -29,7 +29,7 @@ pub struct Layout {
 }
 
 // The offsets of the fields after ZA1, which is the first; content is DATA's.
-#[derive(Drop)]
+#[derive(Clone, Copy)]
 pub struct Places {
     pub za2: Octets,
     pub tab: Octets,

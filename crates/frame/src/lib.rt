@@ -1,3 +1,4 @@
+#![tactic(auto)]
 // The frames of IEC 62056-3-1 without DLMS: commands, layouts, the checks of a whole frame, its fields, and the builder.
 pub mod builder;
 pub mod checks;

@@ -1,3 +1,4 @@
+#![tactic(auto)]
 // Frames for C programs: the builder and the reader of whole frames. include/propolisk_frame.h declares them.
 ghost use Rattle.std.specs.Prelude.{◌≡◌};
 ghost use Rattle.frame_exports.specs.Exported.{build_outcome, read_outcome, fields_from};

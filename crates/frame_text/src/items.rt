@@ -10,7 +10,7 @@ use numbers::Octets;
 use text::{put_hex, put_words};
 
 // A field and the name that it has in a command's words.
-#[derive(Drop)]
+#[derive(Clone, Copy)]
 pub(crate) enum Item {
     Nothing,
     Na1,
@@ -24,7 +24,7 @@ pub(crate) enum Item {
 }
 
 // The fields of a command's words in their order: four at most.
-#[derive(Drop)]
+#[derive(Clone, Copy)]
 pub(crate) struct Items {
     pub(crate) first: Item,
     pub(crate) second: Item,

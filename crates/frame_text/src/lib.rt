@@ -1,3 +1,4 @@
+#![tactic(auto)]
 // A good frame in words, as the programs list it (docs/PROGRAMS.md, A good frame).
 mod items;
 

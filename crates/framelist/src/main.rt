@@ -1,3 +1,4 @@
+#![tactic(auto)]
 // Reads frames one after the other from standard input and lists them, a line for each. The end of the input is a gap.
 mod line;
 
@@ -6,7 +7,7 @@ use line::{list_frame, list_refusal, list_skipped};
 use receiver::{Event, Received, Receiver};
 
 // A receiver, the offset of the N that it last awaited or took, and that of the next octet.
-#[derive(Drop)]
+#[derive(Clone, Copy)]
 struct Listing {
     receiver: Receiver,
     begun: u64,
@@ -14,7 +15,7 @@ struct Listing {
 }
 
 // The listing after one read, and whether the input goes on.
-#[derive(Drop)]
+#[derive(Clone, Copy)]
 struct Turn {
     listing: Listing,
     more: bool,

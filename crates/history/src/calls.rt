@@ -10,7 +10,7 @@ const HEAD_WIDTH: usize = 4;
 // The longest reply buffer that a call can state, since the length is one octet.
 pub const LONGEST_LENT: usize = 255;
 
-#[derive(Drop)]
+#[derive(Clone, Copy)]
 pub enum CallKind {
     Octet,
     MeterWrite,
@@ -19,7 +19,7 @@ pub enum CallKind {
 }
 
 // The call that octets begin with, but for its text, and how many of the octets it takes.
-#[derive(Drop)]
+#[derive(Clone, Copy)]
 pub struct Head {
     pub kind: CallKind,
     pub argument: u8,

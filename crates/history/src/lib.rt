@@ -1,3 +1,4 @@
+#![tactic(auto)]
 // Histories of a card: a list of calls in octets is run over a card that setup gives (demand 3).
 ghost use Rattle.std.specs.Prelude.{◌≡◌};
 ghost use Rattle.card.specs.Events.{octet_call, after};

@@ -1,3 +1,4 @@
+#![tactic(auto)]
 // A label's text: whether it is well-formed UTF-8 (RFC 3629), how many characters it has, and its longest
 // front part of whole characters within an octet limit and a character limit (01, Labels; 02, E1).
 ghost use Rattle.std.specs.Prelude.{◌≡◌};
@@ -11,21 +12,21 @@ use numbers::{Characters, Octets};
 use utf8::sequence_at;
 
 // What a text is: well-formed with this many characters, or ill-formed past this offset.
-#[derive(Drop)]
+#[derive(Clone, Copy)]
 pub enum Text {
     WellFormed(Characters),
     IllFormed(Octets),
 }
 
 // What fitting finds: the kept part's own two counts, or that the label is ill-formed past this offset.
-#[derive(Drop)]
+#[derive(Clone, Copy)]
 pub enum Fitting {
     Kept(Octets, Characters),
     IllFormed(Octets),
 }
 
 // The kept part of the caller's own label, beside what fitting finds.
-#[derive(Drop)]
+#[derive(Clone, Copy)]
 pub struct FittedLabel<'a> {
     pub kept: &'a [u8],
     pub fitting: Fitting,

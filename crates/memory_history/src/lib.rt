@@ -1,3 +1,4 @@
+#![tactic(auto)]
 // Histories of the exported calls: a list of calls in octets is run over the card memory that setup leaves (demand 3).
 ghost use Rattle.std.specs.Prelude.{◌≡◌};
 ghost use Rattle.card.specs.Events.{octet_call};

@@ -1,3 +1,4 @@
+#![tactic(auto)]
 // Numbers in groups of seven bits, as the swap file has them (01, Swap file). Any number below 2^32 is taken; each caller tests its own limit.
 ghost use Rattle.std.specs.Prelude.{◌≡◌, length};
 ghost use Rattle.number.specs.Answers.{answer_of_reading, answer_of_written};
@@ -7,14 +8,14 @@ use numbers::Octets;
 use octets::wide;
 
 // What stands at an offset: a number in its shortest form with the offset after it, or no such number.
-#[derive(Drop)]
+#[derive(Clone, Copy)]
 pub enum Reading {
     Number { value: u32, next: Octets },
     Faulty,
 }
 
 // What writing a number answers: the offset after it, or that it does not fit.
-#[derive(Drop)]
+#[derive(Clone, Copy)]
 pub enum Written {
     Next(Octets),
     Short,

@@ -1,3 +1,4 @@
+#![tactic(auto)]
 // Operations on octets that every crate above shares. Each is total: what it does out of range is stated too.
 ghost use Rattle.std.specs.Prelude.{◌≡◌, reverse, get_or, replicate};
 ghost use Rattle.octets.specs.Splice.{spliced};

@@ -1,3 +1,4 @@
+#![tactic(auto)]
 // For C programs: the check key, one DES block, and fitting a label. include/propolisk_primitives.h declares them.
 ghost use Rattle.std.specs.Prelude.{◌≡◌};
 ghost use Rattle.crc.specs.AnnexE.{check_key, divides};

@@ -1,3 +1,4 @@
+#![tactic(auto)]
 // Octets and gaps into frames (01, Receiving). A receiver is a struct by value and knows nothing of cards and tools.
 ghost use Rattle.std.specs.Prelude.{◌≡◌, ◌<◌};
 ghost use Rattle.octets.specs.Splice.{fronted};
@@ -16,7 +17,7 @@ use numbers::{Octets, table};
 pub const MOST_HELD: usize = 127;
 
 // The octets of a partly received frame, N first. Those at and past the count are free.
-#[derive(Drop)]
+#[derive(Clone, Copy)]
 pub struct Receiver {
     pub skipping: bool,
     pub count: Octets,
@@ -24,7 +25,7 @@ pub struct Receiver {
 }
 
 // What an octet, a gap or a session end gives.
-#[derive(Drop)]
+#[derive(Clone, Copy)]
 pub enum Event {
     Nothing,
     Bad(Fault),
@@ -33,7 +34,7 @@ pub enum Event {
 }
 
 // The next receiver beside the event. frame has the octets of a good frame, as many as its N says, and zeros after them; else zeros.
-#[derive(Drop)]
+#[derive(Clone, Copy)]
 pub struct Received {
     pub receiver: Receiver,
     pub event: Event,

@@ -1,3 +1,4 @@
+#![tactic(auto)]
 // A receiver in lent memory: its mark, its count and the octets of a partly received frame (docs/MEMORY.md).
 ghost use Rattle.std.specs.Prelude.{◌≡◌, replicate};
 ghost use Rattle.octets.specs.Splice.{spliced};

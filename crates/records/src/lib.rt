@@ -1,3 +1,4 @@
+#![tactic(auto)]
 // A card's records: what setup gives each, what each holds, and which reads and writes it allows (01, The card).
 mod finding;
 mod judging;
@@ -10,7 +11,7 @@ use numbers::{Characters, Octets};
 use sizes::{MOST_OCTETS, MOST_RECORDS};
 
 // A label has a limit on its characters; a raw record has none.
-#[derive(Drop)]
+#[derive(Clone, Copy)]
 pub enum Kind {
     Raw,
     Label(Characters),
@@ -18,7 +19,7 @@ pub enum Kind {
 
 // What setup gives a record besides its contents, and no call alters: TAB, kind, octet limit, and the marks
 // readable, open to programming, open to transfer.
-#[derive(Drop)]
+#[derive(Clone, Copy)]
 pub struct Attributes {
     pub tab: u8,
     pub kind: Kind,
@@ -29,7 +30,7 @@ pub struct Attributes {
 }
 
 // A record's contents are the first `length` octets of its storage. The octets after them are free.
-#[derive(Drop)]
+#[derive(Clone, Copy)]
 pub struct Record {
     pub attributes: Attributes,
     pub length: Octets,
@@ -37,14 +38,14 @@ pub struct Record {
 }
 
 // The first `count` records are in use. The others are free.
-#[derive(Drop)]
+#[derive(Clone, Copy)]
 pub struct Records {
     pub count: usize,
     pub each: [Record; MOST_RECORDS],
 }
 
 // Why data, a read or a write is refused: 7, 8, 9, 10 and 11 of 01's table.
-#[derive(Drop)]
+#[derive(Clone, Copy)]
 pub enum Refusal {
     TooLong,
     IllFormed,
@@ -54,28 +55,28 @@ pub enum Refusal {
 }
 
 // What data comes to as data of a record: its character count, which is 0 for a raw record, or why the record does not take it.
-#[derive(Drop)]
+#[derive(Clone, Copy)]
 pub enum Judged {
     Accepted(Characters),
     Refused(Refusal),
 }
 
 // What a write, or the contents given at setup, come to.
-#[derive(Drop)]
+#[derive(Clone, Copy)]
 pub enum Answer {
     Accepted,
     Refused(Refusal),
 }
 
 // The index of the record that a TAB names, or why it may not be used.
-#[derive(Drop)]
+#[derive(Clone, Copy)]
 pub enum Found {
     At(usize),
     Refused(Refusal),
 }
 
 // What causes a write: the meter, or a frame from the primary with this ADP that programs, transfers or broadcasts.
-#[derive(Drop)]
+#[derive(Clone, Copy)]
 pub enum Cause {
     Meter,
     Programmed(u8),
@@ -84,7 +85,7 @@ pub enum Cause {
 }
 
 // The records after a write, and what became of it.
-#[derive(Drop)]
+#[derive(Clone, Copy)]
 pub struct Written {
     pub records: Records,
     pub answer: Answer,

@@ -7,21 +7,21 @@ use crate::item::{Entry, Item, item_at};
 use numbers::Octets;
 
 // Where the next record stands, and how many are left from there on.
-#[derive(Drop)]
+#[derive(Clone, Copy)]
 pub struct Cursor {
     pub at: Octets,
     pub left: RecordCount,
 }
 
 // What starting answers: the cursor of the first record, or the start of the first bad item of a faulty file.
-#[derive(Drop)]
+#[derive(Clone, Copy)]
 pub enum Started {
     First(Cursor),
     Fault(Octets),
 }
 
 // What stands at a cursor: a record with the cursor after it, the end, or no record, where the cursor is not one of this file.
-#[derive(Drop)]
+#[derive(Clone, Copy)]
 pub enum Next {
     Record(Entry, Cursor),
     End,

@@ -12,11 +12,11 @@ pub const FILE_LIMIT: usize = 65536;
 pub const COUNT_LIMIT: usize = 4096;
 
 // A count of records.
-#[derive(Drop)]
+#[derive(Clone, Copy)]
 pub struct RecordCount(pub usize);
 
 // What a file is: accepted with so many records, or faulty with the start of its first bad item.
-#[derive(Drop)]
+#[derive(Clone, Copy)]
 pub enum Verdict {
     Accepted(RecordCount),
     Fault(Octets),

@@ -9,7 +9,7 @@ use numbers::Octets;
 use octets::wide;
 
 // Where a record stands in a file: from at on, its data from another offset on.
-#[derive(Drop)]
+#[derive(Clone, Copy)]
 pub struct Entry {
     pub at: Octets,
     pub tab: u8,
@@ -19,7 +19,7 @@ pub struct Entry {
 }
 
 // What stands at an offset: a record whose items are good, or a record's items up to the bad one at this offset.
-#[derive(Drop)]
+#[derive(Clone, Copy)]
 pub enum Item {
     Good(Entry),
     Bad(Octets),

@@ -12,7 +12,7 @@ const CONTENT_LIMIT: usize = 116;
 const LONG_CONTENT_LIMIT: usize = 4096;
 
 // What a record holds: octets of any sort, a label's text, or the octets of a load curve, of which there may be more.
-#[derive(Drop)]
+#[derive(Clone, Copy)]
 pub enum Kind {
     Raw,
     Label,

@@ -1,3 +1,4 @@
+#![tactic(auto)]
 // The swap file: reading a whole file, and its records one by one (01, Swap file).
 pub mod cursor;
 pub mod file;

@@ -9,7 +9,7 @@ use crate::item::Entry;
 use crate::kind::Kind;
 
 // Which records of a station are asked for.
-#[derive(Drop)]
+#[derive(Clone, Copy)]
 enum Asked {
     Every,
     ToProgram,

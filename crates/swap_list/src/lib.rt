@@ -1,3 +1,4 @@
+#![tactic(auto)]
 // A list of records in the form that the writer takes, kept in order: what a tool collects from the old cards (01, Swap file).
 ghost use Rattle.std.specs.Prelude.{◌≡◌, length};
 ghost use Rattle.swap.specs.Record.{kind_octet};
@@ -17,14 +18,14 @@ pub const HEADS_SIZE: usize = 40960;
 pub const CONTENTS_SIZE: usize = 65536;
 
 // How many records the list has, and how many octets of data, at the front of the two arrays that are lent with it.
-#[derive(Drop)]
+#[derive(Clone, Copy)]
 pub struct RecordList {
     pub records: RecordCount,
     pub octets: Octets,
 }
 
 // What adding answers: the next list, or the offset of the first bad item of the file that the list with the record would make.
-#[derive(Drop)]
+#[derive(Clone, Copy)]
 pub enum Added {
     Kept(RecordList),
     Fault(Octets),

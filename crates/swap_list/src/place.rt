@@ -6,7 +6,7 @@ use swap::item::rank;
 use swap_write::size::{HEAD_SIZE, head_length};
 
 // Offsets in the heads and in their data.
-#[derive(Drop)]
+#[derive(Clone, Copy)]
 pub struct Place {
     pub head: usize,
     pub from: usize,

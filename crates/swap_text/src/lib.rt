@@ -1,3 +1,4 @@
+#![tactic(auto)]
 // The lines in which a program lists a swap file (01, Swap file), written into a lent buffer from an offset on. Each call gives the offset after its line;
 // where the line does not fit, it leaves the buffer and gives the offset as it was.
 ghost use Rattle.std.specs.Prelude.{◌≡◌, ◌+◌, ◌≤◌, length, take};

@@ -14,7 +14,7 @@ use swap::kind::{Kind, fits_kind, kind_of, known, length_limit};
 use swap::{RecordCount, Verdict};
 
 // What a head with its data makes: a record of so many octets of data, or a record whose first bad item stands so far from its start.
-#[derive(Drop)]
+#[derive(Clone, Copy)]
 pub enum Head {
     Good(Octets),
     Bad(Octets),

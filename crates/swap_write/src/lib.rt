@@ -1,3 +1,4 @@
+#![tactic(auto)]
 // Writing a swap file from records in two lent slices: heads of ten octets, and their data one after the other (01, Swap file).
 ghost use Rattle.std.specs.Prelude.{◌≡◌};
 ghost use Rattle.swap.specs.Reading.{answer_of_verdict, verdict_of};
@@ -14,7 +15,7 @@ use swap::Verdict;
 use swap::file::FILE_LIMIT;
 
 // What writing answers: the length of the file, the offset of the first bad item of a file that would be faulty, or that the buffer is too short.
-#[derive(Drop)]
+#[derive(Clone, Copy)]
 pub enum Written {
     Whole(Octets),
     Fault(Octets),

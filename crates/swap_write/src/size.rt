@@ -12,7 +12,7 @@ use swap::file::FILE_LIMIT;
 pub const HEAD_SIZE: usize = 10;
 
 // The length of a file within the limit, or that it is too long.
-#[derive(Drop)]
+#[derive(Clone, Copy)]
 pub enum Size {
     Within(Octets),
     Long,

@@ -1,3 +1,4 @@
+#![tactic(auto)]
 // Reads a swap file from standard input and lists its records, or says at which offset it is refused (01, Swap file).
 use libc::{STDIN_FILENO, STDOUT_FILENO};
 use numbers::Octets;

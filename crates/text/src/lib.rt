@@ -1,3 +1,4 @@
+#![tactic(auto)]
 // Text written into a lent buffer from an offset on: words, octets in hexadecimal digits, numbers in decimal digits. Each call gives the offset after
 // what it wrote; where the text does not fit, it leaves the buffer and gives the offset as it was.
 ghost use Rattle.std.specs.Prelude.{◌≡◌, ◌++◌, ◌+◌, ◌*◌, ◌≤◌, ◌<◌, length, drop};
@@ -7,7 +8,7 @@ ghost use Rattle.text.specs.Text.{digit_of, hex_text, decimal_text, offset_after
 use numbers::Octets;
 
 // The digits of a number at the end of an array, from an offset on.
-#[derive(Drop)]
+#[derive(Clone, Copy)]
 struct Decimal {
     digits: [u8; 20],
     from: usize,

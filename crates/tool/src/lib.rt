@@ -1,3 +1,4 @@
+#![tactic(auto)]
 // The primary station by value: one request at a time, the replies to it, and the wake-up memory (01, The tool).
 ghost use Rattle.std.specs.Prelude.{◌≡◌};
 ghost use Rattle.numbers.specs.Answer.{number_of};
@@ -25,7 +26,7 @@ use wake::{Last, Wake, WakeUps};
 
 // The mark of the request: none runs, and the last was such a one; or one runs, and waits for the reply to ENQ for a TAB, to TRF, to REC with so many
 // octets of DATA, or to AUT. The one that runs is the last.
-#[derive(Drop)]
+#[derive(Clone, Copy)]
 pub enum Phase {
     Idle { last: Last },
     Reading { tab: u8 },
@@ -36,7 +37,7 @@ pub enum Phase {
 
 // A tool. ads and adp are those of the request that runs; key and na1 are those of a programming request, and the first octets of sent its DATA.
 // What the phase does not use of them is free.
-#[derive(Drop)]
+#[derive(Clone, Copy)]
 pub struct Tool {
     pub phase: Phase,
     pub ads: [u8; ADDRESS_WIDTH],
@@ -49,7 +50,7 @@ pub struct Tool {
 }
 
 // Why a call is refused, a frame is dropped, or a request has ended without success.
-#[derive(Drop)]
+#[derive(Clone, Copy)]
 pub enum Refusal {
     BadFrame(Fault),
     WrongAddress,
@@ -66,7 +67,7 @@ pub enum Refusal {
 }
 
 // What the host is told: nothing; a frame is to be sent, and a reply is awaited; the request has ended well; or a refusal.
-#[derive(Drop)]
+#[derive(Clone, Copy)]
 pub enum Answer {
     Nothing,
     Sent,
@@ -75,14 +76,14 @@ pub enum Answer {
 }
 
 // The next tool beside the answer.
-#[derive(Drop)]
+#[derive(Clone, Copy)]
 pub struct Answered {
     pub tool: Tool,
     pub answer: Answer,
 }
 
 // The same for a request: which wake-up goes before its frame, and how many octets of the lent buffer are its frame, none where it is refused.
-#[derive(Drop)]
+#[derive(Clone, Copy)]
 pub struct Requested {
     pub tool: Tool,
     pub answer: Answer,
@@ -91,14 +92,14 @@ pub struct Requested {
 }
 
 // The DATA of a reading, with zeros after them.
-#[derive(Drop)]
+#[derive(Clone, Copy)]
 pub struct Contents {
     pub octets: [u8; MOST_TRANSFERRED],
     pub length: Octets,
 }
 
 // The same for an octet: the frame is AUT, and the contents are those of a reading that has ended well. There are none otherwise.
-#[derive(Drop)]
+#[derive(Clone, Copy)]
 pub struct Heard {
     pub tool: Tool,
     pub answer: Answer,

@@ -14,7 +14,7 @@ use frame::{Command, Fields};
 use numbers::Octets;
 
 // A good frame, as the requests tell replies apart.
-#[derive(Drop)]
+#[derive(Clone, Copy)]
 pub(crate) enum Reply {
     Dat,
     Ech,
@@ -26,7 +26,7 @@ pub(crate) enum Reply {
 }
 
 // What a reply does: it is dropped; it ends a reading with its DATA; it ends the request without a number; it ends it with one; or AUT follows.
-#[derive(Drop)]
+#[derive(Clone, Copy)]
 pub(crate) enum Turn {
     Drop,
     Read,

@@ -19,14 +19,14 @@ use numbers::Octets;
 use wake::{Last, Request, Wake};
 
 // Whether a request is admitted.
-#[derive(Drop)]
+#[derive(Clone, Copy)]
 pub(crate) enum Admission {
     Admitted,
     Refused(Refusal),
 }
 
 // The arguments of a request, but for its DATA.
-#[derive(Drop)]
+#[derive(Clone, Copy)]
 pub(crate) struct Arguments {
     pub(crate) request: Request,
     pub(crate) ads: [u8; ADDRESS_WIDTH],

@@ -1,3 +1,4 @@
+#![tactic(auto)]
 // A tool in lent memory, octet by octet: docs/TOOL_MEMORY.md has the layout. Lengths are narrowed to one octet here and nowhere else.
 ghost use Rattle.std.specs.Prelude.{◌≡◌};
 ghost use Rattle.receiver_memory.specs.Puts.{put_all};

@@ -1,10 +1,11 @@
+#![tactic(auto)]
 // The AGN wake-up rule of a primary station (01, The tool; 001 2.4.8).
 ghost use Rattle.std.specs.Prelude.{◌≡◌};
 ghost use Rattle.wake.specs.Clauses.{enq_or_trf};
 ghost use Rattle.wake.specs.Rule.{fresh, awake, calling, otherwise, wake_before, asked, succeeded};
 
 // A request, named by its frame.
-#[derive(Drop)]
+#[derive(Clone, Copy)]
 pub enum Request {
     Enq,
     Trf,
@@ -14,21 +15,21 @@ pub enum Request {
 }
 
 // The wake-up call that goes out before a frame.
-#[derive(Drop)]
+#[derive(Clone, Copy)]
 pub enum Wake {
     None,
     Agn,
 }
 
 // The last request, as the rule tells requests apart: an ENQ or TRF, or another or none.
-#[derive(Drop)]
+#[derive(Clone, Copy)]
 pub enum Last {
     EnqTrf,
     Other,
 }
 
 // A count of exchanges up to five, which stands for any more.
-#[derive(Drop)]
+#[derive(Clone, Copy)]
 pub struct Exchanges(pub u8);
 
 // So many ENQ and TRF to one station succeed after one wake-up.
@@ -38,7 +39,7 @@ const MOST_EXCHANGES: u8 = 5;
 const STATION_WIDTH: usize = 6;
 
 // What the rule looks at besides the last request: the station of the last ENQ or TRF, and how many ENQ and TRF have succeeded since the last wake-up.
-#[derive(Drop)]
+#[derive(Clone, Copy)]
 pub struct WakeUps {
     pub station: [u8; STATION_WIDTH],
     pub successes: Exchanges,
