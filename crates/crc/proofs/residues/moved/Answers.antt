@@ -1,0 +1,10 @@
+-- `crc::residues::moved` meets its contract.
+-- Assumes nothing.
+use mathlib.Core.Path.{ap}
+use borrow.Author.Rules.{rules}
+use Rattle.computed.specs.Steps.{value}
+use Rattle.computed.specs.Steps.{right, sum}
+use Rattle.crc.proofs.residues.moved.Goals as goal
+
+pub returns : goal.returns
+returns c = ap (value (sum (right c.args.j) (right c.args.k))) c.folded-low.ensures

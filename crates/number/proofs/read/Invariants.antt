@@ -1,0 +1,16 @@
+-- `read`: the groups passed and what is left to read make up what stood at the offset, and each way out ends it by its octet.
+use Prim.Native.Nat.{ℕ, ◌+◌, ◌*◌, ◌%◌, ◌≤◌}
+use mathlib.Core.Path.{◌≡◌, sym, ◌∙◌}
+use mathlib.Core.Logic.{⊎_elim}
+use lib.ListN.{get_or, drop}
+use Rattle.number.specs.Groups.{decoded, found}
+use Rattle.number.proofs.Turns.{Going, started, goes_on, ends, longer, cut, too_many, reads_none, reads_large, reads_number, scale_small, product_small}
+use borrow.Author.Rules.{rules}
+use native.Mathlib.Omega.{arith}
+use Rattle.number.proofs.read.Given as goal
+
+abbrev pub invariant-loop-left : goal.invariant-loop-left
+invariant-loop-left l = (k : ℕ) × Going l.octets l.start l.value l.scale l.next l.left k
+
+abbrev pub decreases-loop-left : goal.decreases-loop-left
+decreases-loop-left l = l.left

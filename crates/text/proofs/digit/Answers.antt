@@ -1,0 +1,13 @@
+-- `digit` meets its contract: one case below ten, one from ten on.
+use borrow.Author.Tests.{lt-ltb, le-ltb}
+use Rattle.text.specs.Text.{digit_of}
+use borrow.Author.Rules.{rules}
+use Rattle.text.proofs.digit.Goals as goal
+
+pub returns-then-n-lt10 : goal.returns-then-n-lt10
+unfolding digit_of
+returns-then-n-lt10 c = rw (lt-ltb _ 10 c.if-n-lt10.true)
+
+pub returns-else-n-lt10 : goal.returns-else-n-lt10
+unfolding digit_of
+returns-else-n-lt10 c = rw (le-ltb _ 10 c.if-n-lt10.false)

@@ -1,0 +1,22 @@
+-- `put_hex` meets its contract: the digits are laid where the words end.
+use lib.ListN.{length-append}
+use Rattle.text.proofs.Writing.{unwritten, room_after, joined}
+use Rattle.text.proofs.Hexadecimal.{length_hex}
+use native.Mathlib.Omega.{arith}
+use borrow.Author.Rules.{rules}
+use Rattle.text.proofs.put_hex.Goals as goal
+
+pub returns-then-buffer-words : goal.returns-then-buffer-words
+returns-then-buffer-words c = unwritten _ _ _ (rw (length-append, length_hex) (omega arith))
+
+pub returns-then-room-at : goal.returns-then-room-at
+returns-then-room-at c = unwritten _ _ _ (rw (length-append, length_hex) (omega arith))
+
+pub returns-then-room-at-2 : goal.returns-then-room-at-2
+returns-then-room-at-2 c = unwritten _ _ _ (rw (length-append, length_hex) (omega arith))
+
+pub put_digits-requires : goal.put_digits-requires
+put_digits-requires c = room_after _ _ _ _ _ _ (omega arith) c.put_words-next.ensures
+
+pub returns : goal.returns
+returns c = joined _ _ _ _ _ _ _ _ (rw length_hex (omega arith)) c.put_words-next.ensures c.put_digits.ensures
