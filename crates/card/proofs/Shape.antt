@@ -3,7 +3,6 @@ use Prim.Native.Nat.{ℕ}
 use mathlib.Core.List.{List}
 use mathlib.Core.Path.{◌≡◌}
 use lib.ListN.{length}
-use borrow.Author.Rules.{length_unmapped}
 use mir.Val.{Val}
 use denote.Shadow.{shadow}
 use Rattle.frame.specs.Sizes.{most_programmed}
@@ -17,7 +16,7 @@ use Rattle.card.specs.contracts.Exchange as exchange
 use Rattle.card.specs.contracts.Card as row
 
 pub content_length : (e : Exchange) (vs : List Val) → shadow ((exchange.the_row).own_val e vs) → length e.content ≡ most_programmed
-content_length e vs own = length_unmapped ℕ e.content most_programmed own.1.1.1.0.1.0.1
+content_length e vs own = own.1.1.1.0.1.0.1
 
 module _ (c : Card) (vs : List Val) (own : shadow ((row.the_row).own_val c vs)) where
   pub waiting_length : length c.exchange.content ≡ most_programmed

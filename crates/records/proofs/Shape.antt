@@ -4,7 +4,6 @@ use mathlib.Core.List.{List, [], ◌∷◌, map}
 use mathlib.Core.Path.{◌≡◌, sym, ◌∙◌}
 use native.Mathlib.Omega.{arith}
 use lib.ListN.{length, get_or, length-map}
-use borrow.Author.Rules.{length_unmapped}
 use mir.Val.{Val}
 use denote.Array.{each}
 use denote.Shadow.{shadow}
@@ -19,7 +18,7 @@ use Rattle.records.specs.contracts.Record as R
 use Rattle.records.specs.contracts.Records as S
 
 pub storage_length : (r : Record) (vs : List Val) → shadow ((R.the_row).own_val r vs) → length r.storage ≡ most_octets
-storage_length r vs g = length_unmapped ℕ r.storage most_octets g.1.1.1.1.0.1.0.1
+storage_length r vs g = g.1.1.1.1.0.1.0.1
 
 element_length : (l : List Record) (us : List Val) (i : ℕ) → shadow (each (R.the_field).row.Denot (R.the_field).row.own_val (map (R.the_type).to l) us) → i < length l → length (get_or l i blank).storage ≡ most_octets
 element_length [] us i p h = let f : ⊥ = omega arith in absurd f

@@ -9,7 +9,7 @@ use lib.Seq.{length-take-le, take_all}
 use Rattle.crc.specs.AnnexE.{check_key}
 use Rattle.crc.specs.Residues.{Represent}
 use Rattle.crc.proofs.Represented.{sixteen_octets, next_octets}
-use Rattle.crc.proofs.same_check_key.Goals as goal
+use Rattle.crc.proofs.check_key.Goals as goal
 
 pub slice_bounds-residues_of-end : goal.slice_bounds-residues_of-end
 slice_bounds-residues_of-end c = sym (length-take-le _ _ (omega arith))
