@@ -2,14 +2,12 @@
 use mathlib.Core.Path.{◌≡◌, refl, sym, ap, ◌∙◌}
 use mathlib.Core.Bool.{true, false}
 use mathlib.Core.List.{List, [], ◌∷◌, flatten}
-use mathlib.Core.Logic.{◌⊎◌, ⊎_elim, inl, inr}
-use Prim.Native.Nat.{ℕ, ◌+◌, ◌-◌, ◌≤◌, ◌<◌}
+use mathlib.Core.Logic.{◌⊎◌, inl, inr}
+use Prim.Native.Nat.{ℕ, ◌+◌, ◌≤◌, ◌<◌}
 use native.Mathlib.Omega.{arith}
-use borrow.Author.Rules.{rules}
-use borrow.Author.Tests.{leb-true, leb-false}
 use lib.ListN.{length, take, drop, length-append}
 use lib.Seq.{take_all}
-use Rattle.label.specs.Utf8.{well_formed_octets}
+use Rattle.label.specs.Utf8.{well_formed_octets, sequence_length}
 use Rattle.label.specs.Character.{starts_character, characters}
 use Rattle.numbers.specs.Counts.{in_octets, in_characters}
 use Rattle.numbers.specs.Answer.{given}
@@ -18,74 +16,47 @@ use Rattle.label.proofs.Grouping.{LastGrown}
 use Rattle.label.proofs.Run.{octets_well_formed, octets_ill_formed}
 use Rattle.label.proofs.Turn.{ReadTo, read_none, characters_empty, read_octets, read_ended, read_all, some_begun, turn_fits, turn_read, turn_starts, turn_joins, kept_before, before_more, before_grown, all_kept, part_kept}
 use Rattle.label.proofs.Answers.{judged-well_formed, judged-ill_formed}
-use Rattle.label.proofs.fit.Invariants.{Counts, invariant-loop-at}
-use Rattle.label.proofs.fit.Goals.{Else-length-eq0}
+use Rattle.label.proofs.fit.Invariants.{Counts}
+use Rattle.label.proofs.fit.Goals.{then-starts_character, then-at-octet_limit+then-begun-character_limit, else-at-octet_limit, else-at-octet_limit-via-then-at-octet_limit+else-begun-character_limit, else-at-octet_limit-via-else-at-octet_limit, else-starts_character, else-at-octet_limit-2-via-then-at-octet_limit-2+else-begun-character_limit-2, else-at-octet_limit-2-via-else-at-octet_limit-2}
 use Rattle.label.proofs.fit.Goals as goal
 
 -- a turn, where a sequence of n octets stands at the offset
-module _ (c : Else-length-eq0) where
-  abbrev label : List ℕ
-  label = c.args.label.now
-
-  abbrev octet_limit : ℕ
-  octet_limit = c.args.octets.0
-
-  abbrev character_limit : ℕ
-  character_limit = c.args.characters.0
-
-  abbrev at : ℕ
-  at = c.loop-at.at
-
-  abbrev n : ℕ
-  n = c.sequence_at-length.result
-
-  abbrev begun : ℕ
-  begun = c.loop-at.begun
-
+module _ (label : List ℕ) (octet_limit character_limit at n begun octets_before characters_before : ℕ)
+    (read : ReadTo label at) (fewer : begun ≤ at) (count_is : begun ≡ length (characters (take at label)))
+    (kept_is : Counts (kept_before octet_limit character_limit (characters (take at label))) octets_before characters_before)
+    (found : n ≡ sequence_length (drop at label)) (some : n ≡ 0 → ⊥) where
   abbrev before : List (List ℕ)
   before = characters (take at label)
 
   abbrev after : List (List ℕ)
   after = characters (take (at + n) label)
 
-  abbrev octets_before : ℕ
-  octets_before = c.loop-at.kept_octets
-
-  abbrev characters-before : ℕ
-  characters-before = c.loop-at.kept_characters
-
   -- what the loop's state says of the front part up to an offset
   abbrev Holds : ℕ → ℕ → ℕ → ℕ → Type 0
   Holds end count octets kept = (count ≤ end) × (count ≡ length (characters (take end label))) × Counts (kept_before octet_limit character_limit (characters (take end label))) octets kept
 
-  inv : invariant-loop-at label octet_limit character_limit 0 0 0 0 at begun octets_before characters-before
-  inv = c.loop-at.invariant
-
-  read : ReadTo label at
-  read = inv.0
-
   in_label : at + n ≤ length label
-  in_label = turn_fits label at n read c.sequence_at-length.ensures c.if-length-eq0.false
+  in_label = turn_fits label at n read found some
 
   -- where a character starts, all that were begun before may be kept
   turned : starts_character label at ≡ true → (octets_kept characters_kept : ℕ) → Counts (keep octet_limit character_limit before) octets_kept characters_kept → Holds (at + n) (begun + 1) octets_kept characters_kept
   turned starts octets_kept characters_kept counts =
-      let more = turn_starts label at n read c.sequence_at-length.ensures c.if-length-eq0.false starts in
+      let more = turn_starts label at n read found some starts in
       let same : kept_before octet_limit character_limit after ≡ keep octet_limit character_limit before = ap (kept_before octet_limit character_limit) more ∙ before_more octet_limit character_limit before (take n (drop at label)) in
-      (omega (arith, inv.1, c.if-length-eq0.false), omega (arith, inv.2, ap length more, length-append before (take n (drop at label) ∷ [])), rw same counts)
+      (omega (arith, fewer, some), omega (arith, count_is, ap length more, length-append before (take n (drop at label) ∷ [])), rw same counts)
 
   turned_whole : starts_character label at ≡ true → at ≤ octet_limit → begun ≤ character_limit → Holds (at + n) (begun + 1) at begun
-  turned_whole starts h k = turned starts at begun (rw (all_kept octet_limit character_limit label at read begun inv.2 h k) (sym (read_octets label at read), inv.2))
+  turned_whole starts h k = turned starts at begun (rw (all_kept octet_limit character_limit label at read begun count_is h k) (sym (read_octets label at read), count_is))
 
-  turned_part : starts_character label at ≡ true → (octet_limit < at) ⊎ (character_limit < begun) → Holds (at + n) (begun + 1) octets_before characters-before
-  turned_part starts over = turned starts octets_before characters-before (rw (part_kept octet_limit character_limit label at read begun inv.2 over) inv.3)
+  turned_part : starts_character label at ≡ true → (octet_limit < at) ⊎ (character_limit < begun) → Holds (at + n) (begun + 1) octets_before characters_before
+  turned_part starts over = turned starts octets_before characters_before (rw (part_kept octet_limit character_limit label at read begun count_is over) kept_is)
 
   -- and a combining mark changes nothing but the last one's octets
-  joined : starts_character label at ≡ false → Holds (at + n) begun octets_before characters-before
+  joined : starts_character label at ≡ false → Holds (at + n) begun octets_before characters_before
   joined joins =
-      let grown : LastGrown after before = turn_joins label at n read c.sequence_at-length.ensures c.if-length-eq0.false joins in
+      let grown : LastGrown after before = turn_joins label at n read found some joins in
       let same : kept_before octet_limit character_limit after ≡ kept_before octet_limit character_limit before = before_grown octet_limit character_limit after before grown (some_begun label at before joins (read_octets label at read)) in
-      (omega (arith, inv.1), inv.2 ∙ sym grown.0, rw same inv.3)
+      (omega (arith, fewer), count_is ∙ sym grown.0, rw same kept_is)
 
 -- the whole label is read
 answered : (label : List ℕ) (octets count at octets_kept characters_kept : ℕ) → ReadTo label at → length label ≤ at → Counts (keep octets count (characters (take at label))) octets_kept characters_kept
@@ -112,25 +83,40 @@ pub starts_character-requires : goal.starts_character-requires
 starts_character-requires c = (c.sequence_at-length.ensures, omega (arith, c.if-length-eq0.false))
 
 pub overflow_add-begun : goal.overflow_add-begun
-overflow_add-begun c = let t = c in omega (arith, in_label t, (inv t).1)
+overflow_add-begun c = omega (arith, in_label c.args.label.now c.args.octets.0 c.args.characters.0 c.loop-at.at c.sequence_at-length.result c.loop-at.begun c.loop-at.kept_octets c.loop-at.kept_characters c.loop-at.invariant.0 c.loop-at.invariant.1 c.loop-at.invariant.2 c.loop-at.invariant.3 c.sequence_at-length.ensures c.if-length-eq0.false, c.loop-at.invariant.1)
 
 pub overflow_add-at : goal.overflow_add-at
-overflow_add-at c = omega (arith, in_label c)
+overflow_add-at c = omega (arith, in_label c.args.label.now c.args.octets.0 c.args.characters.0 c.loop-at.at c.sequence_at-length.result c.loop-at.begun c.loop-at.kept_octets c.loop-at.kept_characters c.loop-at.invariant.0 c.loop-at.invariant.1 c.loop-at.invariant.2 c.loop-at.invariant.3 c.sequence_at-length.ensures c.if-length-eq0.false)
 
 pub loop-at-smaller : goal.loop-at-smaller
-loop-at-smaller c = omega (arith, in_label c, c.if-length-eq0.false)
+loop-at-smaller c = omega (arith, in_label c.args.label.now c.args.octets.0 c.args.characters.0 c.loop-at.at c.sequence_at-length.result c.loop-at.begun c.loop-at.kept_octets c.loop-at.kept_characters c.loop-at.invariant.0 c.loop-at.invariant.1 c.loop-at.invariant.2 c.loop-at.invariant.3 c.sequence_at-length.ensures c.if-length-eq0.false, c.if-length-eq0.false)
 
 pub loop-at-preserved : goal.loop-at-preserved
-loop-at-preserved c = let t = c in
+loop-at-preserved c =
+    let label : List ℕ = c.args.label.now in
+    let octets : ℕ = c.args.octets.0 in
+    let count : ℕ = c.args.characters.0 in
+    let at : ℕ = c.loop-at.at in
+    let n : ℕ = c.sequence_at-length.result in
+    let inv = c.loop-at.invariant in
+    let found = c.sequence_at-length.ensures in
+    let some = c.if-length-eq0.false in
     let starts = sym c.starts_character.ensures in
-    let holds : Holds t (at t + n t) c.if-starts_character.begun c.if-starts_character.kept_octets c.if-starts_character.kept_characters = ⊎_elim
-    (λ w. ⊎_elim
-    (λ v. rw (w.2, w.3, w.4, v.2, v.3) (turned_whole t (starts ∙ w.0.true) v.0.taken (leb-true _ _ v.1.taken)))
-    (λ v. rw (w.2, w.3, w.4, v.1, v.2) (turned_part t (starts ∙ w.0.true) (⊎_elim (λ u. inr (leb-false _ _ u.1.left)) (λ u. inl u.left) v.0.came)))
-    w.1.came)
-    (λ w. rw (w.1, w.2, w.3) (joined t (starts ∙ w.0.left)))
-    c.if-starts_character.branch in
-    (turn_read (label t) (at t) (n t) (read t) t.sequence_at-length.ensures t.if-length-eq0.false, holds.0, holds.1, holds.2)
+    let holds : Holds label octets count at n c.loop-at.begun c.loop-at.kept_octets c.loop-at.kept_characters inv.0 inv.1 inv.2 inv.3 found some (at + n) c.if-starts_character.begun c.if-starts_character.kept_octets c.if-starts_character.kept_characters =
+    elim c.if-starts_character.branch [
+      | then-starts_character w ↦
+          elim w.if-at-octet_limit.branch [
+            | then-at-octet_limit+then-begun-character_limit v ↦ rw (w.begun-is, w.kept_octets-is, w.kept_characters-is, v.kept_octets-is, v.kept_characters-is) (turned_whole label octets count at n c.loop-at.begun c.loop-at.kept_octets c.loop-at.kept_characters inv.0 inv.1 inv.2 inv.3 found some (starts ∙ w.if-starts_character.true) v.if-at-octet_limit.true v.if-begun-character_limit.true)
+            | else-at-octet_limit v ↦
+                let over : (octets < at) ⊎ (count < c.loop-at.begun) = elim v.else-at-octet_limit.branch [
+                  | else-at-octet_limit-via-then-at-octet_limit+else-begun-character_limit u ↦ inr u.if-begun-character_limit.false
+                  | else-at-octet_limit-via-else-at-octet_limit u ↦ inl u.if-at-octet_limit.false
+                ] in
+                rw (w.begun-is, w.kept_octets-is, w.kept_characters-is, v.kept_octets-is, v.kept_characters-is) (turned_part label octets count at n c.loop-at.begun c.loop-at.kept_octets c.loop-at.kept_characters inv.0 inv.1 inv.2 inv.3 found some (starts ∙ w.if-starts_character.true) over)
+          ]
+      | else-starts_character w ↦ rw (w.begun-is, w.kept_octets-is, w.kept_characters-is) (joined label octets count at n c.loop-at.begun c.loop-at.kept_octets c.loop-at.kept_characters inv.0 inv.1 inv.2 inv.3 found some (starts ∙ w.if-starts_character.false))
+    ] in
+    (turn_read label at n inv.0 found some, holds.0, holds.1, holds.2)
 
 pub returns-then-begun-character_limit-2 : goal.returns-then-begun-character_limit-2
 returns-then-begun-character_limit-2 c = let a = c in
@@ -147,6 +133,9 @@ returns c = let a = c in
     let label : List ℕ = args.label.now in
     let at : ℕ = a.loop-at.at in
     let inv = a.loop-at.invariant in
-    let over : (args.octets.0 < at) ⊎ (args.characters.0 < a.loop-at.begun) = ⊎_elim (λ w. inr (leb-false _ _ w.1.left)) (λ w. inl w.left) c.else-at-octet_limit-2.branch in
+    let over : (args.octets.0 < at) ⊎ (args.characters.0 < a.loop-at.begun) = elim c.else-at-octet_limit-2.branch [
+      | else-at-octet_limit-2-via-then-at-octet_limit-2+else-begun-character_limit-2 w ↦ inr w.if-begun-character_limit-2.false
+      | else-at-octet_limit-2-via-else-at-octet_limit-2 w ↦ inl w.if-at-octet_limit-2.false
+    ] in
     answered label args.octets.0 args.characters.0 at a.loop-at.kept_octets a.loop-at.kept_characters inv.0 a.loop-at-test.false
     (rw (part_kept args.octets.0 args.characters.0 label at inv.0 a.loop-at.begun inv.2 over) inv.3)

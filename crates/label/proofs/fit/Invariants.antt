@@ -1,23 +1,10 @@
 -- Of the characters of the front part that is read, all are counted and those before the last may be kept; a turn reads one sequence more.
-use mathlib.Core.Path.{◌≡◌, refl, sym, ap, ◌∙◌}
-use mathlib.Core.Bool.{true, false}
-use mathlib.Core.List.{List, [], ◌∷◌, flatten}
-use mathlib.Core.Logic.{◌⊎◌, ⊎_elim, inl, inr}
-use Prim.Native.Nat.{ℕ, ◌+◌, ◌-◌, ◌≤◌, ◌<◌}
-use native.Mathlib.Omega.{arith}
-use borrow.Author.Rules.{rules}
-use borrow.Author.Tests.{leb-true, leb-false}
-use lib.ListN.{length, take, drop, length-append}
-use lib.Seq.{take_all}
-use Rattle.label.specs.Utf8.{well_formed_octets}
-use Rattle.label.specs.Character.{starts_character, characters}
-use Rattle.numbers.specs.Counts.{in_octets, in_characters}
-use Rattle.numbers.specs.Answer.{given}
-use Rattle.label.specs.Fitting.{counts_of, keep, kept_characters, fit_of}
-use Rattle.label.proofs.Grouping.{LastGrown}
-use Rattle.label.proofs.Run.{octets_well_formed, octets_ill_formed}
-use Rattle.label.proofs.Turn.{ReadTo, read_none, characters_empty, read_octets, read_ended, read_all, some_begun, turn_fits, turn_read, turn_starts, turn_joins, kept_before, before_more, before_grown, all_kept, part_kept}
-use Rattle.label.proofs.Answers.{judged-well_formed, judged-ill_formed}
+use mathlib.Core.Path.{◌≡◌}
+use mathlib.Core.List.{List, flatten}
+use Prim.Native.Nat.{ℕ, ◌-◌, ◌≤◌}
+use lib.ListN.{length, take}
+use Rattle.label.specs.Character.{characters}
+use Rattle.label.proofs.Turn.{ReadTo, kept_before}
 use Rattle.label.proofs.fit.Given as goal
 
 -- the counts of what is kept of a run of characters

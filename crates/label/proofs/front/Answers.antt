@@ -1,7 +1,6 @@
 -- The part starts where the label does, and has the octets that the fitting keeps.
 use mathlib.Core.Path.{refl, sym, ap, ◌∙◌}
 use native.Mathlib.Nat.{le_of_lt}
-use borrow.Author.Rules.{rules}
 use lib.Seq.{length-take-le, take_all}
 use Rattle.label.specs.Fitting.{front_of}
 use Rattle.label.proofs.front.Goals as goal

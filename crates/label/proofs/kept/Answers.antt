@@ -1,6 +1,5 @@
 -- The front part of what `fit` finds is the kept part.
 use mathlib.Core.Path.{◌∙◌}
-use borrow.Author.Rules.{rules}
 use Rattle.label.proofs.Laws.{front_kept}
 use Rattle.label.proofs.kept.Goals as goal
 

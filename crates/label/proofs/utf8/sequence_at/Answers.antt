@@ -1,16 +1,14 @@
 -- The first octet gives the row, and the loop judges each further octet by its range: what is left of the row decides.
 use mathlib.Core.Path.{◌≡◌, sym, ◌∙◌}
-use mathlib.Core.Bool.{cond}
 use mathlib.Core.List.{List}
 use Prim.Native.Nat.{ℕ, ◌+◌, ◌-◌, ◌≤◌, ◌<◌}
 use native.Mathlib.Nat.{add_assoc}
 use native.Mathlib.Omega.{arith}
 use borrow.Author.Rules.{rules}
-use lib.ListN.{length, get_or, drop}
-use Rattle.label.specs.Utf8.{Range, tail, begins, sequence_length}
+use lib.ListN.{length, get_or}
+use Rattle.label.specs.Utf8.{Range, tail}
 use Rattle.label.specs.Lead.{row_of}
 use Rattle.label.proofs.Sequence.{sequence_from_lead, sequence_cut, octet_within, octet_under, octet_over, row_ended}
-use Rattle.label.proofs.utf8.sequence_at.Goals.{Else-octet-lowest, In-loop-place}
 use Rattle.label.proofs.utf8.sequence_at.Goals as goal
 
 -- the row of the octet at the offset, and the code's length of it
@@ -18,29 +16,9 @@ abbrev row_at : List ℕ → ℕ → List Range
 row_at text at = row_of (get_or text at 0)
 
 -- within the loop there is a further range, and an octet for it
-module _ (c : In-loop-place) where
-  abbrev text : List ℕ
-  text = c.args.text.now
-
-  abbrev at : ℕ
-  at = c.args.at
-
-  abbrev place : ℕ
-  place = c.loop-place.place
-
+module _ (text : List ℕ) (at place length' : ℕ) (long : length' ≡ length (row_at text at)) (further : place < length') where
   in_row : place < length (row_at text at)
-  in_row = rw c.sequence_length-length.ensures at c.loop-place-test.true
-
-  in_text : at + place < length text
-  in_text = omega arith
-
--- after the first test of an octet
-module _ (c : Else-octet-lowest) where
-  abbrev turn : In-loop-place
-  turn = c
-
-  low : (get_or (row_at (text turn) (at turn)) (place turn) tail).least ≤ get_or (text turn) (at turn + place turn) 0
-  low = rw c.lowest.ensures at c.if-octet-lowest.false
+  in_row = rw long at further
 
 pub returns-then-text-at : goal.returns-then-text-at
 returns-then-text-at c = let start = c in
@@ -52,19 +30,39 @@ loop-place-init c = let start = c in
     (search rules, sequence_from_lead start.args.text.now start.args.at start.requires ∙ rw c.sequence_length-length.ensures)
 
 pub returns-then-octet-lowest : goal.returns-then-octet-lowest
-returns-then-octet-lowest c = let turn = c in
-    let under : get_or (text turn) (at turn + place turn) 0 < (get_or (row_at (text turn) (at turn)) (place turn) tail).least = rw c.lowest.ensures at c.if-octet-lowest.true in
-    sym (turn.loop-place.invariant.1 ∙ rw (octet_under (row_at (text turn) (at turn)) (text turn) (place turn) (at turn + place turn) (in_row turn) (in_text turn) under))
+returns-then-octet-lowest c =
+    let text : List ℕ = c.args.text.now in
+    let at : ℕ = c.args.at in
+    let place : ℕ = c.loop-place.place in
+    let row : List Range = row_at text at in
+    let within = in_row text at place _ c.sequence_length-length.ensures c.loop-place-test.true in
+    let further : at + place < length text = omega arith in
+    let under : get_or text (at + place) 0 < (get_or row place tail).least = rw c.lowest.ensures at c.if-octet-lowest.true in
+    sym (c.loop-place.invariant.1 ∙ rw (octet_under row text place (at + place) within further under))
 
 pub returns-then-highest-octet : goal.returns-then-highest-octet
-returns-then-highest-octet c = let t = turn c in
-    let over : (get_or (row_at (text t) (at t)) (place t) tail).greatest < get_or (text t) (at t + place t) 0 = rw c.highest.ensures at c.if-highest-octet.true in
-    sym (t.loop-place.inv.1 ∙ rw (octet_over (row_at (text t) (at t)) (text t) (place t) (at t + place t) (in_row t) (in_text t) (low c) over))
+returns-then-highest-octet c =
+    let text : List ℕ = c.args.text.now in
+    let at : ℕ = c.args.at in
+    let place : ℕ = c.loop-place.place in
+    let row : List Range = row_at text at in
+    let within = in_row text at place _ c.sequence_length-length.ensures c.loop-place-test.true in
+    let further : at + place < length text = omega arith in
+    let low : (get_or row place tail).least ≤ get_or text (at + place) 0 = rw c.lowest.ensures at c.if-octet-lowest.false in
+    let over : (get_or row place tail).greatest < get_or text (at + place) 0 = rw c.highest.ensures at c.if-highest-octet.true in
+    sym (c.loop-place.invariant.1 ∙ rw (octet_over row text place (at + place) within further low over))
 
 pub loop-place-preserved : goal.loop-place-preserved
-loop-place-preserved c = let t = turn c in
-    let high : get_or (text t) (at t + place t) 0 ≤ (get_or (row_at (text t) (at t)) (place t) tail).greatest = rw c.highest.ensures at c.if-highest-octet.false in
-    (omega arith, t.loop-place.inv.1 ∙ rw (octet_within (row_at (text t) (at t)) (text t) (place t) (at t + place t) (in_row t) (in_text t) (low c) high, add_assoc))
+loop-place-preserved c =
+    let text : List ℕ = c.args.text.now in
+    let at : ℕ = c.args.at in
+    let place : ℕ = c.loop-place.place in
+    let row : List Range = row_at text at in
+    let within = in_row text at place _ c.sequence_length-length.ensures c.loop-place-test.true in
+    let further : at + place < length text = omega arith in
+    let low : (get_or row place tail).least ≤ get_or text (at + place) 0 = rw c.lowest.ensures at c.if-octet-lowest.false in
+    let high : get_or text (at + place) 0 ≤ (get_or row place tail).greatest = rw c.highest.ensures at c.if-highest-octet.false in
+    (omega arith, c.loop-place.invariant.1 ∙ rw (octet_within row text place (at + place) within further low high, add_assoc))
 
 pub returns : goal.returns
 returns c = let start = c in
