@@ -1,13 +1,11 @@
 -- `read`: the groups passed and what is left to read make up what stood at the offset, and each way out ends it by its octet.
-use Prim.Native.Nat.{ℕ, ◌+◌, ◌*◌, ◌%◌, ◌≤◌}
+use Prim.Native.Nat.{◌+◌, ◌*◌, ◌%◌, ◌≤◌}
 use mathlib.Core.Path.{◌≡◌, sym, ◌∙◌}
-use mathlib.Core.Logic.{⊎_elim}
 use lib.ListN.{get_or, drop}
 use Rattle.number.specs.Groups.{decoded, found}
-use Rattle.number.proofs.Turns.{Going, started, goes_on, ends, longer, cut, too_many, reads_none, reads_large, reads_number, scale_small, product_small}
-use borrow.Author.Rules.{rules}
+use Rattle.number.proofs.Turns.{started, goes_on, ends, longer, cut, too_many, reads_none, reads_large, reads_number, scale_small, product_small}
 use native.Mathlib.Omega.{arith}
-use Rattle.number.proofs.read.Goals.{Joined-octet-eq0}
+use Rattle.number.proofs.read.Goals.{Joined-octet-eq0, then-octet-eq0+else-start-next, else-octet-eq0}
 use Rattle.number.proofs.read.Goals as goal
 
 -- a last octet that is no zero behind other groups
@@ -15,7 +13,7 @@ last_octet : (c : Joined-octet-eq0) → let w = c in let l = w.loop-left in let 
 last_octet c =
     let w = c in
     let l = w.loop-left in
-    let alone : w.wide-octet.result ≡ 0 → l.next ≤ w.args.at.0 = ⊎_elim (λ v. λ _. v.1.left) (λ v. λ e. absurd (v.left e)) c.if-octet-eq0.branch in
+    let alone : w.wide-octet.result ≡ 0 → l.next ≤ w.args.at.0 = elim c.if-octet-eq0.branch [ then-octet-eq0+else-start-next w ↦ λ _. w.if-start-next.false | else-octet-eq0 w ↦ λ e. absurd (w.if-octet-eq0.false e) ] in
     rw w.wide-octet.ensures
     (ends l.invariant.1 w.loop-left-test.true w.if-octets-next.false (rw (← w.wide-octet.ensures) c.if-octet-lt128.true) (λ e. alone (w.wide-octet.ensures ∙ e)))
 
@@ -46,7 +44,7 @@ overflow_add-whole c = let l = c.loop-left in
 
 pub returns-then-whole-ge4294967296 : goal.returns-then-whole-ge4294967296
 returns-then-whole-ge4294967296 c = let a = c.args in
-    sym (reads_large a.octets.now a.at.0 _ _ (last_octet c) c.if-whole-ge4294967296.true)
+    sym (reads_large a.octets.now a.at.0 _ _ (last_octet (goal.at.returns-then-whole-ge4294967296 c).Joined-octet-eq0) c.if-whole-ge4294967296.true)
 
 pub overflow_cast-result : goal.overflow_cast-result
 overflow_cast-result c = omega (arith, c.if-whole-ge4294967296.false)
@@ -55,7 +53,7 @@ pub returns-then-octet-lt128 : goal.returns-then-octet-lt128
 returns-then-octet-lt128 c = let l = c.loop-left in
     let a = c.args in
     let e : l.next + 1 ≡ a.at.0 + (l.invariant.0 + 1) = omega (arith, l.invariant.1.place) in
-    rw e (sym (reads_number a.octets.now a.at.0 _ _ (last_octet c) c.if-whole-ge4294967296.false))
+    rw e (sym (reads_number a.octets.now a.at.0 _ _ (last_octet (goal.at.returns-then-octet-lt128 c).Joined-octet-eq0) c.if-whole-ge4294967296.false))
 
 pub overflow_mul-value : goal.overflow_mul-value
 overflow_mul-value c = let l = c.loop-left in

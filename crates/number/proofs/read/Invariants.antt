@@ -1,12 +1,6 @@
 -- `read`: the groups passed and what is left to read make up what stood at the offset, and each way out ends it by its octet.
-use Prim.Native.Nat.{ℕ, ◌+◌, ◌*◌, ◌%◌, ◌≤◌}
-use mathlib.Core.Path.{◌≡◌, sym, ◌∙◌}
-use mathlib.Core.Logic.{⊎_elim}
-use lib.ListN.{get_or, drop}
-use Rattle.number.specs.Groups.{decoded, found}
-use Rattle.number.proofs.Turns.{Going, started, goes_on, ends, longer, cut, too_many, reads_none, reads_large, reads_number, scale_small, product_small}
-use borrow.Author.Rules.{rules}
-use native.Mathlib.Omega.{arith}
+use Prim.Native.Nat.{ℕ}
+use Rattle.number.proofs.Turns.{Going}
 use Rattle.number.proofs.read.Given as goal
 
 abbrev pub invariant-loop-left : goal.invariant-loop-left

@@ -1,9 +1,8 @@
 -- `write`: at each turn the octets laid and the form of what is left make up the form of the number.
-use Prim.Native.Nat.{ℕ, ◌+◌, ◌-◌, ◌<◌}
+use Prim.Native.Nat.{◌+◌, ◌-◌, ◌<◌}
 use lib.ListN.{length, length-set}
 use Rattle.number.specs.Groups.{encoded}
-use Rattle.number.proofs.Laying.{Laid, laid_none, laid_more, length_same, next_within, written_octets, written_next, short_answer, short_octets}
-use borrow.Author.Rules.{rules}
+use Rattle.number.proofs.Laying.{laid_none, laid_more, length_same, next_within, written_octets, written_next, short_answer, short_octets}
 use native.Mathlib.Omega.{arith}
 use Rattle.number.proofs.write.Goals as goal
 
@@ -48,6 +47,6 @@ shape_of-octets c = simp length-set (length_same c.loop-rest.invariant.1.1)
 
 pub returns : goal.returns
 returns c = let l = c.loop-rest in (
-      written_next _ _ _ _ _ _ l.invariant.0 l.invariant.1.0 l.invariant.1.1 c.loop-rest-test.false,
-      written_octets _ _ _ _ _ _ l.invariant.0 l.invariant.1.0 l.invariant.1.1 c.loop-rest-test.false,
-    )
+  written_next _ _ _ _ _ _ l.invariant.0 l.invariant.1.0 l.invariant.1.1 c.loop-rest-test.false,
+  written_octets _ _ _ _ _ _ l.invariant.0 l.invariant.1.0 l.invariant.1.1 c.loop-rest-test.false,
+)
