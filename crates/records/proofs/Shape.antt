@@ -1,9 +1,9 @@
 -- What owning a record, or records, by value tells of their lists: the arrays' lengths.
 use Prim.Native.Nat.{ℕ, zero, suc, ◌<◌, min}
-use mathlib.Core.List.{List, [], ◌∷◌, map}
+use mathlib.Core.List.{List, [], ◌∷◌}
 use mathlib.Core.Path.{◌≡◌, sym, ◌∙◌}
 use native.Mathlib.Omega.{arith}
-use lib.ListN.{length, get_or, length-map}
+use lib.ListN.{length, get_or}
 use mir.Val.{Val}
 use denote.Array.{each}
 use denote.Shadow.{shadow}
@@ -20,7 +20,7 @@ use Rattle.records.specs.contracts.Records as S
 pub storage_length : (r : Record) (vs : List Val) → shadow ((R.the_row).own_val r vs) → length r.storage ≡ most_octets
 storage_length r vs g = g.1.1.1.1.0.1.0.1
 
-element_length : (l : List Record) (us : List Val) (i : ℕ) → shadow (each (R.the_field).row.Denot (R.the_field).row.own_val (map (R.the_type).to l) us) → i < length l → length (get_or l i blank).storage ≡ most_octets
+element_length : (l : List Record) (us : List Val) (i : ℕ) → shadow (each (R.the_row).Denot (R.the_row).own_val l us) → i < length l → length (get_or l i blank).storage ≡ most_octets
 element_length [] us i p h = let f : ⊥ = omega arith in absurd f
 element_length (r ∷ l) [] i p h = absurd p
 element_length (r ∷ l) (u ∷ us) zero p h = storage_length r (u ∷ []) p.0
@@ -28,7 +28,7 @@ element_length (r ∷ l) (u ∷ us) (suc i) p h = element_length l us i p.1 (ome
 
 module _ (s : Records) (vs : List Val) (own : shadow ((S.the_row).own_val s vs)) where
   pub each-length : length s.each ≡ most_records
-  each-length = sym (length-map s.each _) ∙ own.1.1.1.0.1.0.1
+  each-length = own.1.1.1.0.1.0.1
 
   -- a walk of as many records as the count allows goes over those in use
   pub in_use_length : (n : ℕ) → n ≡ min s.count most_records → n ≡ length (used s)
