@@ -1,0 +1,7 @@
+-- `keys::alike` meets its contract.
+-- Assumes nothing.
+use borrow.Author.Rules.{rules}
+use Rattle.des.proofs.keys.alike.Goals as goal
+
+pub returns : goal.returns
+returns c = rw (c.equal.ensures, c.without_parity-2.ensures, c.without_parity.ensures)
