@@ -63,7 +63,7 @@ loop-n-preserved c = let a = c.args in
     let K : ℕ → List ℕ = λ i. round_key a.key.now (order a.deciphering i) in
     let x = rounds K l.n (bits_of 64 a.input) in
     let h = l.invariant.2 in
-    let v = rw h.right.same at (c.f.ensures (K (l.n + 1)) (key_in_hand c)) in (
+    let v = rw h.right.same at (c.f.ensures (K (l.n + 1)) (key_in_hand (goal.at.loop-n-preserved c).After-round_key-k)) in (
       omega arith,
       l.invariant.1,
       rw (rounds_more K (bits_of 64 a.input) l.n) at (round_apart (K (l.n + 1)) x l.l l.r c.f.result h v),
