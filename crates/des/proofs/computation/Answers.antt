@@ -1,7 +1,6 @@
 -- `computation` meets its contract: the steps follow one another.
 -- Assumes nothing.
 use mathlib.Core.Path.{ap, ◌∙◌}
-use borrow.Author.Rules.{rules}
 use Rattle.des.specs.Tables.{inverse_ip}
 use Rattle.des.specs.Des.{octets, permuted, rounds, exchanged, computation}
 use Rattle.des.proofs.computation.Goals as goal

@@ -1,6 +1,5 @@
 -- `decipher` meets its contract: it is the computation with the round keys in its own order.
 -- Assumes nothing.
-use borrow.Author.Rules.{rules}
 use Rattle.des.specs.Des.{decipher}
 use Rattle.des.proofs.decipher.Goals as goal
 

@@ -1,6 +1,5 @@
 -- `encipher` meets its contract: it is the computation with the round keys in its own order.
 -- Assumes nothing.
-use borrow.Author.Rules.{rules}
 use Rattle.des.specs.Des.{encipher}
 use Rattle.des.proofs.encipher.Goals as goal
 

@@ -1,7 +1,6 @@
 -- `output` meets its contract: the halves are exchanged, permuted by the inverse of IP, and laid out as octets.
 -- Assumes nothing.
 use mathlib.Core.Path.{ap, ◌∙◌}
-use borrow.Author.Rules.{rules}
 use Rattle.des.specs.Tables.{inverse_ip}
 use Rattle.des.specs.Des.{octets, permuted}
 use Rattle.des.proofs.output.Goals as goal

@@ -1,6 +1,5 @@
 -- `permuted_input` meets its contract: it is IP of the block's bits.
 -- Assumes nothing.
-use borrow.Author.Rules.{rules}
 use Rattle.des.proofs.permuted_input.Goals as goal
 
 pub returns : goal.returns

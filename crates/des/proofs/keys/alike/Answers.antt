@@ -1,6 +1,5 @@
 -- `keys::alike` meets its contract.
 -- Assumes nothing.
-use borrow.Author.Rules.{rules}
 use Rattle.des.proofs.keys.alike.Goals as goal
 
 pub returns : goal.returns

@@ -2,7 +2,6 @@
 -- Assumes nothing.
 use mathlib.Core.Path.{◌≡◌, refl}
 use mathlib.Core.Bool.{Bool, true, false, ◌||◌}
-use borrow.Author.Rules.{rules}
 use Rattle.des.specs.WeakKeys.{weak_keys, weak}
 use Rattle.des.proofs.keys.weak.Goals as goal
 

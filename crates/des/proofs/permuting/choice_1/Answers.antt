@@ -7,7 +7,6 @@ use Rattle.des.specs.Des.{bits_of, permuted}
 use Rattle.des.specs.Words.{Word}
 use Rattle.des.specs.Exchanges.{gathered}
 use Rattle.des.proofs.Exchanges.{by7, by14, by28, is_choice}
-use borrow.Author.Rules.{rules}
 use Rattle.des.proofs.permuting.choice_1.Goals as goal
 
 pub returns : goal.returns

@@ -6,7 +6,6 @@ use Rattle.des.specs.Tables.{IP}
 use Rattle.des.specs.Des.{bits_of, permuted}
 use Rattle.des.specs.Words.{Word}
 use Rattle.des.proofs.Exchanges.{by6, by9, by18, by36, is_initial}
-use borrow.Author.Rules.{rules}
 use Rattle.des.proofs.permuting.initial.Goals as goal
 
 pub returns : goal.returns

@@ -6,7 +6,6 @@ use Rattle.des.specs.Tables.{inverse_ip}
 use Rattle.des.specs.Des.{bits_of, permuted}
 use Rattle.des.specs.Words.{Word}
 use Rattle.des.proofs.Exchanges.{by3, by6, by9, by18, is_inverse}
-use borrow.Author.Rules.{rules}
 use Rattle.des.proofs.permuting.inverse_initial.Goals as goal
 
 pub returns : goal.returns

@@ -1,7 +1,6 @@
 -- `rounds::exchanged` meets its contract: the lower half stands before the upper one.
 -- Assumes nothing.
 use Prim.Native.Nat.{◌+◌, ◌*◌, ◌/◌, ◌%◌, ◌^◌}
-use borrow.Author.Rules.{rules}
 use Rattle.des.specs.Des.{bits_of, exchanged}
 use Rattle.des.specs.Words.{Word}
 use Rattle.des.proofs.Held.{itself, joined, upper, lower}

@@ -1,7 +1,6 @@
 -- `rounds::f` meets its contract: each box is handed its six bits of K ⊕ E(R), and the tables give P of what the boxes select.
 -- Assumes nothing.
 use Prim.Native.Nat.{◌/◌, ◌^◌}
-use borrow.Author.Rules.{rules}
 use lib.Bits.{bit_xor}
 use Rattle.des.specs.Tables.{E}
 use Rattle.des.specs.Des.{bits_of, permuted, ◌⊕◌, f}

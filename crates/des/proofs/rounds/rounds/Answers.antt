@@ -3,12 +3,12 @@
 -- Assumes nothing.
 use mathlib.Core.Path.{◌≡◌}
 use mathlib.Core.List.{List}
-use Prim.Native.Nat.{ℕ, ◌+◌, ◌-◌, ◌*◌, ◌^◌, ◌≤◌}
+use Prim.Native.Nat.{ℕ, ◌+◌, ◌*◌, ◌^◌}
 use native.Mathlib.Omega.{arith}
 use Rattle.des.specs.Des.{bits_of, round_key, rounds}
-use Rattle.des.specs.Words.{Word, HalvesHeld, KeyHeld, order}
+use Rattle.des.specs.Words.{Word, KeyHeld, order}
 use Rattle.des.proofs.Held.{upper, lower}
-use Rattle.des.proofs.Feistel.{rounds_more, HeldApart, apart, together, round_apart}
+use Rattle.des.proofs.Feistel.{rounds_more, apart, together, round_apart}
 use Rattle.des.proofs.rounds.rounds.Goals.{After-loop-n, After-round_key-k}
 use Rattle.des.proofs.rounds.rounds.Goals as goal
 

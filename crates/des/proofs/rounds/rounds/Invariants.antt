@@ -1,14 +1,10 @@
 -- `rounds::rounds` meets its contract. The loop's invariant: C0 and D0 are held, each twice, and L and R are the halves of what n rounds give,
 -- with round key i in round i in enciphering and 17 - i in deciphering.
 -- Assumes nothing.
-use mathlib.Core.Path.{◌≡◌}
-use mathlib.Core.List.{List}
-use Prim.Native.Nat.{ℕ, ◌+◌, ◌-◌, ◌*◌, ◌^◌, ◌≤◌}
-use native.Mathlib.Omega.{arith}
+use Prim.Native.Nat.{◌-◌, ◌≤◌}
 use Rattle.des.specs.Des.{bits_of, round_key, rounds}
-use Rattle.des.specs.Words.{Word, HalvesHeld, KeyHeld, order}
-use Rattle.des.proofs.Held.{upper, lower}
-use Rattle.des.proofs.Feistel.{rounds_more, HeldApart, apart, together, round_apart}
+use Rattle.des.specs.Words.{HalvesHeld, order}
+use Rattle.des.proofs.Feistel.{HeldApart}
 use Rattle.des.proofs.rounds.rounds.Given as goal
 
 abbrev pub invariant-loop-n : goal.invariant-loop-n

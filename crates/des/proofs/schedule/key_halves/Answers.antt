@@ -1,6 +1,5 @@
 -- `schedule::key_halves` meets its contract: it is permuted choice 1 of the key's bits.
 -- Assumes nothing.
-use borrow.Author.Rules.{rules}
 use Rattle.des.specs.Des.{key_halves}
 use Rattle.des.proofs.schedule.key_halves.Goals as goal
 

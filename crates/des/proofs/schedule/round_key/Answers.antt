@@ -1,6 +1,5 @@
 -- `schedule::round_key` meets its contract: permuted choice 2, with gaps, of C0 and D0 after the left shifts up to the round's own key.
 -- Assumes nothing.
-use borrow.Author.Rules.{rules}
 use Rattle.des.specs.Des.{key_halves, round_key}
 use Rattle.des.proofs.KeySchedule.{length-key_halves}
 use Rattle.des.proofs.RoundKeys.{shifted_key}

@@ -2,7 +2,6 @@
 -- Assumes nothing.
 use Prim.Native.Nat.{◌-◌}
 use native.Mathlib.Omega.{arith}
-use borrow.Author.Rules.{rules}
 use Rattle.des.proofs.KeySchedule.{key_halves_at}
 use Rattle.des.proofs.schedule.shifts_to.Goals as goal
 

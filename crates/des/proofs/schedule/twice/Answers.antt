@@ -1,6 +1,5 @@
 -- `schedule::twice` meets its contract: the half stands before itself.
 -- Assumes nothing.
-use borrow.Author.Rules.{rules}
 use Rattle.des.proofs.Held.{joined}
 use Rattle.des.proofs.schedule.twice.Goals as goal
 

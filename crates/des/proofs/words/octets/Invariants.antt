@@ -1,14 +1,9 @@
 -- `words::octets` meets its contract: after i turns the first i octets are those of the word's bits.
 -- Assumes nothing.
-use mathlib.Core.Path.{◌≡◌, refl, ap, sym, ◌∙◌}
-use Prim.Native.Nat.{ℕ, ◌+◌, ◌-◌, ◌*◌, ◌/◌, ◌%◌, ◌^◌, ◌<◌}
-use native.Mathlib.Numerals.{add-one}
-use native.Mathlib.Omega.{arith}
-use borrow.Author.Rules.{rules}
-use lib.ListN.{length, take, drop, length-set}
-use lib.Seq.{take_all, take-suc-set}
-use Rattle.des.specs.Des.{bits_of, number, octets}
-use Rattle.des.proofs.Strings.{octets_more, part_bits_of, number-bits_of}
+use mathlib.Core.Path.{◌≡◌}
+use Prim.Native.Nat.{◌+◌, ◌-◌, ◌*◌}
+use lib.ListN.{length, take}
+use Rattle.des.specs.Des.{bits_of, octets}
 use Rattle.des.proofs.words.octets.Given as goal
 
 abbrev pub invariant-loop-i : goal.invariant-loop-i

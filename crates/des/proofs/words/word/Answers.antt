@@ -2,10 +2,9 @@
 -- Assumes nothing.
 use mathlib.Core.Path.{◌≡◌, refl}
 use mathlib.Core.List.{flat_map}
-use Prim.Native.Nat.{◌+◌, ◌-◌, ◌*◌, ◌≤◌}
+use Prim.Native.Nat.{◌+◌, ◌*◌}
 use native.Mathlib.Omega.{arith}
-use borrow.Author.Rules.{rules}
-use lib.ListN.{length, take}
+use lib.ListN.{take}
 use lib.Seq.{take_all}
 use Rattle.des.specs.Des.{bits_of, bits}
 use Rattle.des.specs.Words.{Word}
@@ -20,7 +19,7 @@ more : (c : After-wide)
 more c =
     let l = c.loop-i in
     let o = c.args.octets.now in
-    rw c.wide.ensures (octet_more o l.i l.acc (omega arith) (c.shared_slice_known-in-loop-i-1.given l.i).fits l.invariant.1)
+    rw c.wide.ensures (octet_more o l.i l.acc (omega arith) (c.type_inv.octets l.i).fits l.invariant.1)
 
 pub loop-i-init : goal.loop-i-init
 unfolding bits flat_map bits_of
