@@ -5,9 +5,10 @@ ghost use Rattle.history.specs.Encoding.{longest_lent};
 use crate::lines;
 use card::Card;
 use history::calls::{CallKind, LONGEST_LENT, head_at, text_at};
+use std::io;
 
 // All calls, and the card after them.
-pub(crate) fn play(card: Card, s: &[u8]) -> Card {
+pub(crate) fn play(rt: &impl Print, card: Card, s: &[u8]) -> io::Result<Card> {
     let mut now = card;
     let mut index = 1;
     let mut at = 0;
@@ -15,23 +16,23 @@ pub(crate) fn play(card: Card, s: &[u8]) -> Card {
         let rest = &s[at..];
         let head = head_at(rest);
         let size = head.size;
-        now = called(now, index, rest);
-        index = std::num::wrapping_add_u64(index, 1);
+        now = called(rt, now, index, rest)?;
+        index = index.wrapping_add(1);
         at += size.0;
     }
-    now
+    Ok(now)
 }
 
 // The call that the octets begin with.
-fn called(card: Card, index: u64, calls: &[u8]) -> Card {
+fn called(rt: &impl Print, card: Card, index: u64, calls: &[u8]) -> io::Result<Card> {
     let head = head_at(calls);
     let text = text_at(calls);
     let kind = head.kind;
     match kind {
-        CallKind::Octet => octet(card, index, head.argument, head.reply, text),
-        CallKind::MeterWrite => meter_write(card, index, head.argument, text),
-        CallKind::SessionEnd => session_end(card, index),
-        CallKind::Gap => gap(card, index),
+        CallKind::Octet => octet(rt, card, index, head.argument, head.reply, text),
+        CallKind::MeterWrite => meter_write(rt, card, index, head.argument, text),
+        CallKind::SessionEnd => session_end(rt, card, index),
+        CallKind::Gap => gap(rt, card, index),
     }
 }
 
@@ -42,33 +43,40 @@ fn untouched() -> [u8; LONGEST_LENT]
     [0xA5; LONGEST_LENT]
 }
 
-fn octet(card: Card, index: u64, octet: u8, reply: u8, na2: &[u8]) -> Card {
+fn octet(
+    rt: &impl Print,
+    card: Card,
+    index: u64,
+    octet: u8,
+    reply: u8,
+    na2: &[u8],
+) -> io::Result<Card> {
     let mut buffer = untouched();
     let end = reply as usize;
     let stepped = card.octet(octet, na2, &mut buffer[..end]);
     let answer = stepped.answer;
     let sent = stepped.reply;
-    lines::print_octet(index, answer.number(), &buffer, sent.0);
-    stepped.card
+    lines::print_octet(rt, index, answer.number(), &buffer, sent.0)?;
+    Ok(stepped.card)
 }
 
-fn meter_write(card: Card, index: u64, tab: u8, data: &[u8]) -> Card {
+fn meter_write(rt: &impl Print, card: Card, index: u64, tab: u8, data: &[u8]) -> io::Result<Card> {
     let done = card.meter_write(tab, data);
     let answer = done.answer;
-    lines::print_call(index, answer.number());
-    done.card
+    lines::print_call(rt, index, answer.number())?;
+    Ok(done.card)
 }
 
-fn session_end(card: Card, index: u64) -> Card {
+fn session_end(rt: &impl Print, card: Card, index: u64) -> io::Result<Card> {
     let done = card.session_end();
     let answer = done.answer;
-    lines::print_call(index, answer.number());
-    done.card
+    lines::print_call(rt, index, answer.number())?;
+    Ok(done.card)
 }
 
-fn gap(card: Card, index: u64) -> Card {
+fn gap(rt: &impl Print, card: Card, index: u64) -> io::Result<Card> {
     let done = card.gap();
     let answer = done.answer;
-    lines::print_call(index, answer.number());
-    done.card
+    lines::print_call(rt, index, answer.number())?;
+    Ok(done.card)
 }

@@ -5,33 +5,51 @@ mod calls;
 mod lines;
 mod setup;
 
+ghost use Rattle.std.specs.Prelude.{◌≤◌, IfOk, length};
+
 use card::Answer;
-use libc::{STDIN_FILENO, STDOUT_FILENO};
+use std::io;
+use std::io::Read;
 
 // The setup of the input, then its calls, unless the setup is refused.
-fn run(s: &[u8]) {
+fn run(rt: &impl Print, s: &[u8]) -> io::Result<()> {
     let offsets = setup::read_offsets(s);
     let from = offsets.calls;
     if s.len() < from {
-        io::write_all(STDOUT_FILENO, b"the input ends inside the setup\n");
-        return;
+        return rt.write_all(b"the input ends inside the setup\n");
     }
     let done = setup::played(s, offsets);
     let answer = done.answer;
-    lines::print_setup(answer.number());
+    lines::print_setup(rt, answer.number())?;
     if let Answer::Nothing = answer {
         let fresh = done.card;
-        let card = calls::play(fresh, &s[from..]);
-        lines::print_records(card.records);
+        let card = calls::play(rt, fresh, &s[from..])?;
+        lines::print_records(rt, card.records)?;
     }
+    Ok(())
 }
 
-fn main() {
-    let mut input = io::large_buffer();
-    let n = io::read_full(STDIN_FILENO, &mut input);
-    if n == 65536 {
-        io::write_all(STDOUT_FILENO, b"the input is over 65535 octets\n");
-        return;
+// Reads until the buffer is full or the input ends, and gives how many octets it put at the buffer's start.
+fn read_full(rt: &impl Input, buffer: &mut [u8]) -> io::Result<usize>
+    ensures { IfOk result (λ n. n ≤ length buffer.new) }
+{
+    let mut input = rt.reader();
+    let mut done = 0;
+    while done < buffer.len() {
+        let count = input.read(&mut buffer[done..])?;
+        if count == 0 {
+            break;
+        }
+        done += count;
     }
-    run(&input[..n]);
+    Ok(done)
+}
+
+fn main(rt: HostRuntime) -> io::Result<()> {
+    let mut input = [0u8; 65536];
+    let n = read_full(&rt, &mut input)?;
+    if n == 65536 {
+        return rt.write_all(b"the input is over 65535 octets\n");
+    }
+    run(&rt, &input[..n])
 }

@@ -2,6 +2,7 @@
 use crate::gather::Gathered;
 use crate::stations::FLAT;
 use printing::{print_octets, print_record};
+use std::io;
 use swap::Kind;
 
 const TAB: u8 = 0x03;
@@ -17,11 +18,11 @@ const FIRST_INDEX: usize = 88250;
 const RISE: usize = 250;
 
 // The curve goes into the file as a long record, for no record of a card has room for it.
-pub(crate) fn log(gathered: Gathered) -> Gathered {
+pub(crate) fn log(rt: &impl Print, gathered: Gathered) -> io::Result<Gathered> {
     let curve = indexes();
-    print_octets(b"curve TAB ", &[TAB]);
-    print_record(b" ", Kind::Long, &curve, b"\n");
-    gathered.with(FLAT, TAB, Kind::Long, &curve)
+    print_octets(rt, b"curve TAB ", &[TAB])?;
+    print_record(rt, b" ", Kind::Long, &curve, b"\n")?;
+    Ok(gathered.with(FLAT, TAB, Kind::Long, &curve))
 }
 
 fn indexes() -> [u8; OCTETS] {

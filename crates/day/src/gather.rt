@@ -1,5 +1,6 @@
 // Records that were read or logged, for the swap file's writer.
 use printing::print;
+use std::io;
 use swap::{Kind, RecordCount};
 use swap_list::{Added, RecordList};
 use swap_write::Written;
@@ -60,28 +61,28 @@ impl Gathered {
     }
 
     // The file of these records; none where they make a faulty one.
-    pub(crate) fn written(self) -> File {
+    pub(crate) fn written(self, rt: &impl Print) -> io::Result<File> {
         let list = self.list;
         let records = list.records;
         let octets = list.octets;
         let heads = self.heads;
         let contents = self.contents;
-        let mut buffer = io::buffer();
+        let mut buffer = [0u8; 4096];
         let written = swap_write::write(
             octets::part(&heads, 0, head_octets(records)),
             octets::part(&contents, 0, octets.0),
             &mut buffer,
         );
         let Written::Whole(length) = written else {
-            print(b"the swap file is refused\n");
-            return File {
+            print(rt, b"the swap file is refused\n")?;
+            return Ok(File {
                 octets: buffer,
                 length: 0,
-            };
+            });
         };
-        File {
+        Ok(File {
             octets: buffer,
             length: length.0,
-        }
+        })
     }
 }

@@ -13,18 +13,19 @@ use exchange::Bus;
 use gather::File;
 use hours::{Readings, UNDAMAGED, read_all};
 use printing::print;
+use std::io;
 use tool::Tool;
 
-fn main() {
-    let morning = seven();
+fn main(rt: HostRuntime) -> io::Result<()> {
+    let morning = seven(&rt)?;
     let gathered = morning.gathered;
-    let old = curve::log(gathered).written();
+    let old = curve::log(&rt, gathered)?.written(&rt)?;
     let read = morning.bus;
-    let fitted = ten(read, old);
+    let fitted = ten(&rt, read, old)?;
     let cards = fitted.cards;
-    let noon = twelve(cards);
+    let noon = twelve(&rt, cards)?;
     let polled = noon.gathered;
-    night(old, polled.written());
+    night(&rt, old, polled.written(&rt)?)
 }
 
 // A fresh tool with an ADP is plugged in, and nothing is read yet.
@@ -40,18 +41,21 @@ fn plugged(cards: [Card; 3], adp: u8) -> Readings {
 }
 
 // The first reading of the holder's label, the third of all, is damaged on the wire.
-fn seven() -> Readings {
-    print(b"07:00 the fitter reads the old card\n");
+fn seven(rt: &impl Print) -> io::Result<Readings> {
+    print(rt, b"07:00 the fitter reads the old card\n")?;
     let polls = [0x66, 0x01, 0x66, 0x02, 0x66, 0x0A, 0x66, 0x0A, 0x66, 0x0B];
-    read_all(plugged(stations::block(), 1), &polls, 2)
+    read_all(rt, plugged(stations::block(), 1), &polls, 2)
 }
 
-fn ten(bus: Bus, file: File) -> Bus {
-    print(b"\n10:00 the fitter programs the new card from the swap file\n");
+fn ten(rt: &impl Print, bus: Bus, file: File) -> io::Result<Bus> {
+    print(
+        rt,
+        b"\n10:00 the fitter programs the new card from the swap file\n",
+    )?;
     let octets = file.octets;
     let written = octets::part(&octets, 0, file.length);
-    printing::print_file(written);
-    hours::program_all(swapped(bus), written)
+    printing::print_file(rt, written)?;
+    hours::program_all(rt, swapped(bus), written)
 }
 
 // The new card takes the place and the address of the old one.
@@ -62,21 +66,21 @@ fn swapped(bus: Bus) -> Bus {
 }
 
 // The van has a tool and an ADP of its own, and reads every record of the block.
-fn twelve(cards: [Card; 3]) -> Readings {
-    print(b"\n12:00 the van polls the block\n");
+fn twelve(rt: &impl Print, cards: [Card; 3]) -> io::Result<Readings> {
+    print(rt, b"\n12:00 the van polls the block\n")?;
     let polls = [
         0x66, 0x01, 0x66, 0x02, 0x66, 0x0A, 0x66, 0x0B, 0x77, 0x01, 0x77, 0x0A, 0x88, 0x01, 0x88,
         0x02, 0x88, 0x03, 0x88, 0x04, 0x88, 0x05, 0x88, 0x06,
     ];
-    read_all(plugged(cards, 2), &polls, UNDAMAGED)
+    read_all(rt, plugged(cards, 2), &polls, UNDAMAGED)
 }
 
-fn night(old: File, new: File) {
-    print(b"\n21:00 the office opens the records\n");
+fn night(rt: &impl Print, old: File, new: File) -> io::Result<()> {
+    print(rt, b"\n21:00 the office opens the records\n")?;
     let old_octets = old.octets;
     let new_octets = new.octets;
     let morning = octets::part(&old_octets, 0, old.length);
     let noon = octets::part(&new_octets, 0, new.length);
-    printing::print_file(noon);
-    hours::compare_files(morning, noon);
+    printing::print_file(rt, noon)?;
+    hours::compare_files(rt, morning, noon)
 }

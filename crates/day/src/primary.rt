@@ -3,6 +3,7 @@ use crate::wire::{Sent, TOOL, silence};
 use frame::sizes::MOST_TRANSFERRED;
 use numbers::Octets;
 use printing::{print, print_tool};
+use std::io;
 use tool::{Answer, Contents, Requested, Tool};
 use wake::Wake;
 
@@ -63,77 +64,84 @@ pub(crate) fn listening(tool: Tool, adp: u8) -> Primary {
 }
 
 // The tool after a request: its wake-up, and its frame to be sent.
-fn asked(requested: Requested, adp: u8, frame: [u8; 128]) -> Primary {
+fn asked(rt: &impl Print, requested: Requested, adp: u8, frame: [u8; 128]) -> io::Result<Primary> {
     let wake = requested.wake;
     if let Wake::Agn = wake {
-        print(b"wake  AGN\n");
+        print(rt, b"wake  AGN\n")?;
     }
     let answer = requested.answer;
-    print_tool(answer.number());
+    print_tool(rt, answer.number())?;
     let tool = requested.tool;
     let length = requested.frame;
     let mut next = listening(tool, adp);
     let sent = next.sent;
     let spoken = sent.or(frame, length.0, TOOL);
     next.sent = spoken;
-    next
+    Ok(next)
 }
 
 impl Primary {
-    pub(crate) fn read(self, ads: [u8; 6], tab: u8) -> Primary {
+    pub(crate) fn read(self, rt: &impl Print, ads: [u8; 6], tab: u8) -> io::Result<Primary> {
         let tool = self.tool;
         let mut frame = [0u8; 128];
         let requested = tool.read(&ads, self.adp, tab, &mut frame);
-        asked(requested, self.adp, frame)
+        asked(rt, requested, self.adp, frame)
     }
 
-    pub(crate) fn program(self, ads: [u8; 6], tab: u8, data: &[u8], key: [u8; 8]) -> Primary {
+    pub(crate) fn program(
+        self,
+        rt: &impl Print,
+        ads: [u8; 6],
+        tab: u8,
+        data: &[u8],
+        key: [u8; 8],
+    ) -> io::Result<Primary> {
         let tool = self.tool;
         let mut frame = [0u8; 128];
         let requested = tool.program(&ads, self.adp, tab, data, &key, &NA1, &mut frame);
-        asked(requested, self.adp, frame)
+        asked(rt, requested, self.adp, frame)
     }
 
-    pub(crate) fn hears(self, sent: Sent) -> Primary {
+    pub(crate) fn hears(self, rt: &impl Print, sent: Sent) -> io::Result<Primary> {
         let octets = sent.octets;
         let frame = octets::part(&octets, 0, sent.length);
         let tool = self.tool;
         let mut now = listening(tool, self.adp);
         let mut i = 0;
         while i < frame.len() {
-            now = now.hears_octet(frame[i]);
+            now = now.hears_octet(rt, frame[i])?;
             i += 1;
         }
-        now
+        Ok(now)
     }
 
-    fn hears_octet(self, octet: u8) -> Primary {
+    fn hears_octet(self, rt: &impl Print, octet: u8) -> io::Result<Primary> {
         let tool = self.tool;
         let mut buffer = [0u8; 128];
         let heard = tool.octet(octet, &mut buffer);
         let next = heard.tool;
         let answer = heard.answer;
-        print_tool(answer.number());
+        print_tool(rt, answer.number())?;
         let contents = heard.contents;
         let frame = heard.frame;
         let stage = self.stage;
         let sent = self.sent;
-        Primary {
+        Ok(Primary {
             tool: next,
             adp: self.adp,
             stage: stage_after(stage, answer),
             sent: sent.or(buffer, frame.0, TOOL),
             contents: contents,
-        }
+        })
     }
 
     // Nothing more comes: the tool's host reports a session end.
-    pub(crate) fn leaves(self) -> Primary {
+    pub(crate) fn leaves(self, rt: &impl Print) -> io::Result<Primary> {
         let tool = self.tool;
         let told = tool.session_end();
         let answer = told.answer;
-        print_tool(answer.number());
+        print_tool(rt, answer.number())?;
         let next = told.tool;
-        listening(next, self.adp)
+        Ok(listening(next, self.adp))
     }
 }

@@ -3,6 +3,7 @@ ghost use Rattle.std.specs.Prelude.{◌<◌};
 
 use card::Card;
 use printing::{print, print_card, print_frame, print_number, print_octets};
+use std::io;
 
 // The number that the host of a card lends with each octet. It is fixed, so that every day prints the same; a real host lends a fresh one that nobody can guess.
 const NA2: [u8; 8] = [0xFE, 0xDC, 0xBA, 0x98, 0x76, 0x54, 0x32, 0x10];
@@ -61,37 +62,38 @@ impl Sent {
         }
     }
 
-    pub(crate) fn print(self, speaker: &[u8]) {
+    pub(crate) fn print(self, rt: &impl Print, speaker: &[u8]) -> io::Result<()> {
         let octets = self.octets;
         if self.length != 0 {
-            print_frame(speaker, octets::part(&octets, 0, self.length));
+            print_frame(rt, speaker, octets::part(&octets, 0, self.length))?;
         }
+        Ok(())
     }
 
     // Each bit of a damaged octet is turned.
-    pub(crate) fn damaged(self, damage: Damage) -> Sent {
+    pub(crate) fn damaged(self, rt: &impl Print, damage: Damage) -> io::Result<Sent> {
         let Damage::At(at) = damage else {
-            return self;
+            return Ok(self);
         };
         let mut octets = self.octets;
         let old = octets::octet(&octets, at);
-        print_damage(at, old);
+        print_damage(rt, at, old)?;
         octets::put(&mut octets, at, &[255 - old]);
         let mut next = self;
         next.octets = octets;
-        next
+        Ok(next)
     }
 }
 
-fn print_damage(at: usize, old: u8) {
-    print_number(b"wire  octet ", at);
-    print_octets(b" turns from ", &[old]);
-    print_octets(b" to ", &[255 - old]);
-    print(b"\n");
+fn print_damage(rt: &impl Print, at: usize, old: u8) -> io::Result<()> {
+    print_number(rt, b"wire  octet ", at)?;
+    print_octets(rt, b" turns from ", &[old])?;
+    print_octets(rt, b" to ", &[255 - old])?;
+    print(rt, b"\n")
 }
 
 // Every card but the one that sends hears a frame: an octet after the other, and each by one card after the other.
-pub(crate) fn cards_hear(cards: [Card; 3], sent: Sent) -> Cards {
+pub(crate) fn cards_hear(rt: &impl Print, cards: [Card; 3], sent: Sent) -> io::Result<Cards> {
     let mut now = Cards {
         each: cards,
         reply: silence(),
@@ -102,44 +104,44 @@ pub(crate) fn cards_hear(cards: [Card; 3], sent: Sent) -> Cards {
     let mut i = 0;
     while i < 384 {
         if i / 3 < frame.len() && i % 3 != place {
-            now = card_hears(now, i % 3, octets::octet(frame, i / 3));
+            now = card_hears(rt, now, i % 3, octets::octet(frame, i / 3))?;
         }
         i += 1;
     }
-    now
+    Ok(now)
 }
 
 // The card at a place hears an octet.
-fn card_hears(cards: Cards, place: usize, octet: u8) -> Cards
+fn card_hears(rt: &impl Print, cards: Cards, place: usize, octet: u8) -> io::Result<Cards>
     requires { place < 3 }
 {
     let mut each = cards.each;
     let before = cards.reply;
-    let heard = hears(each[place], octet);
+    let heard = hears(rt, each[place], octet)?;
     let next = heard.card;
     let octets = heard.octets;
     each[place] = next;
-    Cards {
+    Ok(Cards {
         each: each,
         reply: before.or(octets, heard.length, place),
-    }
+    })
 }
 
 // A card hears an octet, and its host says which number it got.
-fn hears(card: Card, octet: u8) -> Heard {
+fn hears(rt: &impl Print, card: Card, octet: u8) -> io::Result<Heard> {
     let mut buffer = [0u8; 128];
     let identity = card.identity;
     let address = identity.address;
     let stepped = card.octet(octet, &NA2, &mut buffer);
     let next = stepped.card;
     let answer = stepped.answer;
-    print_card(address, answer.number());
+    print_card(rt, address, answer.number())?;
     let reply = stepped.reply;
-    Heard {
+    Ok(Heard {
         card: next,
         octets: buffer,
         length: reply.0,
-    }
+    })
 }
 
 // Nothing more comes: the host of each card reports a session end.

@@ -1,12 +1,12 @@
 // The library's S-boxes, for whoever compares them with FIPS 46-3.
 ghost use Rattle.std.specs.Prelude.{◌<◌};
 
-use libc::STDOUT_FILENO;
 use numbers::Octets;
+use std::io;
 use text::{put_hex, put_number, put_words};
 
 // Writes a row of sixteen entries on a line of its own, after the name of its box.
-fn print_row(boxes: &[u8], row: usize)
+fn print_row(rt: &impl Print, boxes: &[u8], row: usize) -> io::Result<()>
     requires { row < 32 }
 {
     let mut line = [0u8; 64];
@@ -14,15 +14,16 @@ fn print_row(boxes: &[u8], row: usize)
     let entries = octets::part(boxes, row * 16, row * 16 + 16);
     let next = put_hex(&mut line, entries_at, b" ", entries);
     let end = put_words(&mut line, next, b"\n");
-    io::write_all(STDOUT_FILENO, octets::part(&line, 0, end.0));
+    rt.write_all(octets::part(&line, 0, end.0))
 }
 
 // Writes the eight boxes, four rows each.
-pub(crate) fn print() {
+pub(crate) fn print(rt: &impl Print) -> io::Result<()> {
     let boxes = des::boxes::boxes();
     let mut row = 0;
     while row < 32 {
-        print_row(&boxes, row);
+        print_row(rt, &boxes, row)?;
         row += 1;
     }
+    Ok(())
 }

@@ -28,7 +28,7 @@ pub(crate) fn is_comment(line: &[u8]) -> bool {
 
 // Whether a line asks for the S-boxes.
 pub(crate) fn asks_for_boxes(line: &[u8]) -> bool {
-    check::same(line, b"boxes")
+    octets::equal(line, b"boxes")
 }
 
 // Whether a name has no space in it.

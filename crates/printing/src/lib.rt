@@ -1,6 +1,6 @@
 #![tactic(auto)]
 // What programs print on standard output: words, numbers, octets, frames, records and swap files, and the numbers handed back in words. A statement cannot speak of
-// what is printed, and nothing is given or written, so these functions promise no more than to be safe and to end.
+// what is printed, so these functions promise no more than to be safe and to end; the error that one gives is that of a write that failed.
 mod files;
 mod line;
 mod refusals;
