@@ -22,22 +22,22 @@ judged_held c =
     let w = c in
     let a = w in
     let n = a.args.self.count.0 in
-    c.judge-verdict.ensures ∙ ap judged (ap (take (n + 1)) w.whole-frame.ensures ∙ whole_front n a.args.self.octets a.args.octet (within a))
+    c.judge-verdict.ensures ∙ ap judged (ap (take (n + 1)) w.whole-frame.ensures ∙ whole_front n a.args.self.octets a.args.octet (within (goal.at.After-judge-verdict c).Start))
 
 pub slice_bounds-judge-end : goal.slice_bounds-judge-end
 slice_bounds-judge-end c = let w = c in
     let a = w in
-    let long = ap length w.whole-frame.ensures ∙ whole_length a.args.self.count.0 a.args.self.octets a.args.octet (within a) a.requires in
+    let long = ap length w.whole-frame.ensures ∙ whole_length a.args.self.count.0 a.args.self.octets a.args.octet (within (goal.at.slice_bounds-judge-end c).Start) a.requires in
     sym (length-take-le _ _ (omega (arith, long, a.requires)))
 
 pub returns-in-Good : goal.returns-in-Good
 unfolding judged_outcome answer_to frame_of
 returns-in-Good c = let v = c in
     let e = v in
-    rw (← judged_held e, v.in-Good.is, e.empty-next.ensures, e.whole-frame.ensures)
+    rw (← judged_held (goal.at.returns-in-Good c).After-judge-verdict, v.in-Good.is, e.empty-next.ensures, e.whole-frame.ensures)
 
 pub returns-in-Refused : goal.returns-in-Refused
 unfolding judged_outcome answer_to frame_of
 returns-in-Refused c = let v = c in
     let e = v in
-    rw (← judged_held e, v.in-Refused.is, c.answer.ensures, e.empty-next.ensures)
+    rw (← judged_held (goal.at.returns-in-Refused c).After-judge-verdict, v.in-Refused.is, c.answer.ensures, e.empty-next.ensures)

@@ -30,7 +30,7 @@ returns-then-count-whole c = let t = c in
     let l = a.args.self.octets in
     let o = a.args.octet in
     let s = held_with a.args.self o in
-    let more : length s < get_or s 0 0 = rw (length_held n l o (within a), first_held n l o (within a) a.requires.0) t.if-count-whole.true in
+    let more : length s < get_or s 0 0 = rw (length_held n l o (within (goal.at.returns-then-count-whole c).Start), first_held n l o (within (goal.at.returns-then-count-whole c).Start) a.requires.0) t.if-count-whole.true in
     rw (grown_more s more, c.answer.ensures, c.hold.ensures)
 
 pub returns-else-count-whole : goal.returns-else-count-whole
@@ -40,5 +40,5 @@ returns-else-count-whole c = let t = c in
     let l = a.args.self.octets in
     let o = a.args.octet in
     let s = held_with a.args.self o in
-    let whole : get_or s 0 0 ≤ length s = rw (length_held n l o (within a), first_held n l o (within a) a.requires.0) t.if-count-whole.false in
+    let whole : get_or s 0 0 ≤ length s = rw (length_held n l o (within (goal.at.returns-else-count-whole c).Start), first_held n l o (within (goal.at.returns-else-count-whole c).Start) a.requires.0) t.if-count-whole.false in
     c.complete.ensures ∙ sym (ap (stepped a.args.self) (grown_whole s whole))

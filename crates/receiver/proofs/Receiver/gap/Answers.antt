@@ -23,18 +23,18 @@ unfolding after_gap on_gap answer_to frame_of
 returns-then-self c = let t = c in
     let e = t in
     let r = e.args.self in
-    rw (sound_answered on_gap r skipping (passed e) (reception_skipping r t.if-self.true), c.answer-then-self.ensures, e.empty-next.ensures)
+    rw (sound_answered on_gap r skipping (passed (goal.at.returns-then-self c).Else-not-is_sound) (reception_skipping r t.if-self.true), c.answer-then-self.ensures, e.empty-next.ensures)
 
 pub returns-then-count-eq0 : goal.returns-then-count-eq0
 unfolding after_gap on_gap answer_to frame_of
 returns-then-count-eq0 c = let t = c in
     let e = t in
     let r = e.args.self in
-    rw (sound_answered on_gap r awaiting (passed e) (reception_awaiting r t.if-self.false c.if-count-eq0.true), c.answer-then-count-eq0.ensures, e.empty-next.ensures)
+    rw (sound_answered on_gap r awaiting (passed (goal.at.returns-then-count-eq0 c).Else-not-is_sound) (reception_awaiting r t.if-self.false c.if-count-eq0.true), c.answer-then-count-eq0.ensures, e.empty-next.ensures)
 
 pub returns : goal.returns
 unfolding after_gap on_gap answer_to frame_of
 returns c = let t = c in
     let e = t in
     let r = e.args.self in
-    rw (sound_answered on_gap r (partial (take r.count.0 r.octets)) (passed e) (reception_partial r t.if-self.false c.if-count-eq0.false), c.answer-2.ensures, e.empty-next.ensures)
+    rw (sound_answered on_gap r (partial (take r.count.0 r.octets)) (passed (goal.at.returns c).Else-not-is_sound) (reception_partial r t.if-self.false c.if-count-eq0.false), c.answer-2.ensures, e.empty-next.ensures)

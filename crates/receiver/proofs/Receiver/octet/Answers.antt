@@ -26,21 +26,21 @@ unfolding after_octet on_octet answer_to frame_of
 returns-then-self c = let t = c in
     let r = t.args.self in
     let o = t.args.octet in
-    rw (sound_answered (on_octet o) r skipping (passed t) (reception_skipping r t.if-self.true), still_skipping r t.if-self.true) c.answer-then-self.ensures
+    rw (sound_answered (on_octet o) r skipping (passed (goal.at.returns-then-self c).Else-not-is_sound) (reception_skipping r t.if-self.true), still_skipping r t.if-self.true) c.answer-then-self.ensures
 
 pub returns-then-count-eq0 : goal.returns-then-count-eq0
 unfolding after_octet on_octet
 returns-then-count-eq0 c = let e = c in
     let a = e.args in
-    c.begin.ensures ∙ sym (sound_answered (on_octet a.octet) a.self awaiting (passed e) (reception_awaiting a.self e.if-self.false c.if-count-eq0.true))
+    c.begin.ensures ∙ sym (sound_answered (on_octet a.octet) a.self awaiting (passed (goal.at.returns-then-count-eq0 c).Else-not-is_sound) (reception_awaiting a.self e.if-self.false c.if-count-eq0.true))
 
 pub extend-requires : goal.extend-requires
 extend-requires c = let e = c in
     let some : 0 < e.args.self.count.0 = omega (arith, c.if-count-eq0.false) in
-    (some, (test_sound e.args.self (passed e)).partly e.if-self.false some)
+    (some, (test_sound e.args.self (passed (goal.at.extend-requires c).Else-not-is_sound)).partly e.if-self.false some)
 
 pub returns : goal.returns
 unfolding after_octet on_octet
 returns c = let e = c in
     let a = e.args in
-    c.extend.ensures ∙ sym (sound_answered (on_octet a.octet) a.self (partial (take a.self.count.0 a.self.octets)) (passed e) (reception_partial a.self e.if-self.false c.if-count-eq0.false))
+    c.extend.ensures ∙ sym (sound_answered (on_octet a.octet) a.self (partial (take a.self.count.0 a.self.octets)) (passed (goal.at.returns c).Else-not-is_sound) (reception_partial a.self e.if-self.false c.if-count-eq0.false))
