@@ -1,7 +1,6 @@
 -- `decode` reads each field at its place.
 use Rattle.receiver_memory.specs.Fields.{field_at}
 use Rattle.receiver_memory.specs.Receiver.{decoded}
-use borrow.Author.Rules.{rules}
 use Rattle.receiver_memory.proofs.decode.Goals as goal
 
 pub returns : goal.returns

@@ -6,7 +6,6 @@ use Rattle.receiver.proofs.Lengths.{octets_length}
 use Rattle.receiver_memory.specs.Fields.{mark_of, narrowed}
 use Rattle.receiver_memory.proofs.Images.{after_front}
 use Rattle.receiver_memory.specs.Receiver.{most_held, image}
-use borrow.Author.Rules.{rules}
 use Rattle.receiver_memory.proofs.encode.Goals as goal
 
 pub returns : goal.returns
