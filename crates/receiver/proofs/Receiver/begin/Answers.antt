@@ -1,5 +1,4 @@
 -- `Receiver::begin` takes an N: 1 where it is out of range, else the first octet held.
-use borrow.Author.Rules.{rules}
 use Rattle.receiver.specs.Receiving.{begun}
 use Rattle.receiver.specs.Receiver.{holding, answer_to, frame_of}
 use Rattle.receiver.proofs.Receiver.begin.Goals as goal

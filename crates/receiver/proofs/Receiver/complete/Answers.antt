@@ -4,7 +4,6 @@ use mathlib.Core.Path.{◌≡◌, sym, ap, ◌∙◌}
 use native.Mathlib.Omega.{arith}
 use lib.ListN.{length, take}
 use lib.Seq.{length-take-le}
-use borrow.Author.Rules.{rules}
 use Rattle.frame.specs.Checks.{answer_of_verdict, judged}
 use Rattle.receiver.specs.Receiving.{judged_outcome}
 use Rattle.receiver.specs.Receiver.{held_with, answer_to, frame_of}

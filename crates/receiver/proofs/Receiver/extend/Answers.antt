@@ -3,7 +3,6 @@ use Prim.Native.Nat.{◌≤◌, ◌<◌}
 use mathlib.Core.Path.{sym, ap, ◌∙◌}
 use native.Mathlib.Omega.{arith}
 use lib.ListN.{length, get_or}
-use borrow.Author.Rules.{rules}
 use Rattle.receiver.specs.Receiver.{held_with, stepped, answer_to, frame_of}
 use Rattle.receiver.proofs.Lengths.{octets_length}
 use Rattle.receiver.proofs.Growth.{grown_more, grown_whole, length_held, first_held}

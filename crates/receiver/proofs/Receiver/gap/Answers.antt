@@ -2,8 +2,6 @@
 use mathlib.Core.Path.{◌≡◌, sym, ◌∙◌}
 use mathlib.Core.Bool.{true}
 use lib.ListN.{take}
-use borrow.Author.Rules.{rules}
-use borrow.Author.Tests.{not-true, not-false}
 use Rattle.receiver.specs.Receiving.{awaiting, skipping, partial, on_gap}
 use Rattle.receiver.specs.Receiver.{sound, answer_to, frame_of, after_gap}
 use Rattle.receiver.proofs.Cases.{reception_skipping, reception_awaiting, reception_partial, sound_answered, unsound_answered}

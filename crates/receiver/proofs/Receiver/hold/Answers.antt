@@ -2,7 +2,6 @@
 use Prim.Native.Nat.{◌<◌}
 use native.Mathlib.Omega.{arith}
 use lib.ListN.{length}
-use borrow.Author.Rules.{rules}
 use Rattle.receiver.proofs.Lengths.{octets_length}
 use Rattle.receiver.proofs.Growth.{stored_holds}
 use Rattle.receiver.proofs.Receiver.hold.Goals as goal

@@ -1,5 +1,4 @@
 -- `Receiver::is_sound` runs the test for 12: each return is one case of it.
-use borrow.Author.Rules.{rules}
 use borrow.Author.Tests.{eq-eqb, ne_eqb}
 use Rattle.receiver.specs.Receiver.{sound}
 use Rattle.receiver.proofs.Receiver.is_sound.Goals as goal

@@ -4,8 +4,6 @@ use mathlib.Core.Path.{◌≡◌, sym, ◌∙◌}
 use mathlib.Core.Bool.{true}
 use native.Mathlib.Omega.{arith}
 use lib.ListN.{take}
-use borrow.Author.Rules.{rules}
-use borrow.Author.Tests.{not-true, not-false}
 use Rattle.receiver.specs.Receiving.{awaiting, skipping, partial, on_octet}
 use Rattle.receiver.specs.Receiver.{sound, answer_to, frame_of, after_octet}
 use Rattle.receiver.proofs.Soundness.{test_sound}

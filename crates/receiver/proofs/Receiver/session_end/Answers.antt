@@ -1,7 +1,5 @@
 -- `Receiver::session_end` empties the receiver, after the test for 12.
 use mathlib.Core.Path.{refl, sym, ◌∙◌}
-use borrow.Author.Rules.{rules}
-use borrow.Author.Tests.{not-true, not-false}
 use Rattle.receiver.specs.Receiving.{on_session_end}
 use Rattle.receiver.specs.Receiver.{answer_to, frame_of, reception_of, after_session_end}
 use Rattle.receiver.proofs.Cases.{sound_answered, unsound_answered}

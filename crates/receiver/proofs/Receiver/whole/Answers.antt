@@ -4,7 +4,6 @@ use mathlib.Core.Path.{sym}
 use native.Mathlib.Omega.{arith}
 use lib.ListN.{length}
 use lib.Seq.{length-take-le}
-use borrow.Author.Rules.{rules}
 use Rattle.receiver.proofs.Lengths.{octets_length}
 use Rattle.receiver.proofs.Growth.{whole_stored}
 use Rattle.receiver.proofs.Receiver.whole.Goals.{Start}

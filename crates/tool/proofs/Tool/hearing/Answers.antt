@@ -1,0 +1,6 @@
+-- `Tool::hearing` tells of no contents.
+use borrow.Author.Rules.{rules}
+use Rattle.tool.proofs.Tool.hearing.Goals as goal
+
+pub returns : goal.returns
+returns c = rw (← c.no_contents.ensures) c.telling.ensures

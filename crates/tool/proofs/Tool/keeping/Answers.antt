@@ -1,0 +1,6 @@
+-- `Tool::keeping` stores what was lent.
+use borrow.Author.Rules.{rules}
+use Rattle.tool.proofs.Tool.keeping.Goals as goal
+
+pub returns : goal.returns
+returns c = rw c.put.ensures

@@ -1,0 +1,6 @@
+-- `Tool::over` ends the request.
+use borrow.Author.Rules.{rules}
+use Rattle.tool.proofs.Tool.over.Goals as goal
+
+pub returns : goal.returns
+returns c = rw c.ended-tool.ensures at c.hearing.ensures
