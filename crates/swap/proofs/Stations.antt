@@ -7,7 +7,6 @@ use lib.ListN.{get_or}
 use native.Mathlib.Omega.{arith}
 use Rattle.numbers.specs.Answer.{Answer, given, refused, refused_at}
 use Rattle.numbers.specs.Table.{faulty_file}
-use Rattle.octets.specs.Part.{same}
 use Rattle.swap.specs.declared.item.Entry.{Entry}
 use Rattle.swap.specs.declared.cursor.Cursor.{Cursor}
 use Rattle.swap.specs.declared.station.Asked.{Asked}
