@@ -1,0 +1,6 @@
+-- `Card::fresh` puts an empty receiver beside what setup gives.
+use borrow.Author.Rules.{rules}
+use Rattle.card.proofs.Card.fresh.Goals as goal
+
+pub returns : goal.returns
+returns c = rw c.new-receiver.ensures

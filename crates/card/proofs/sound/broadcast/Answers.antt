@@ -1,0 +1,8 @@
+-- `broadcast` compares the address with six zeros.
+use borrow.Author.Rules.{rules}
+use Rattle.frame.specs.Addresses.{broadcast}
+use Rattle.card.proofs.sound.broadcast.Goals as goal
+
+pub returns : goal.returns
+unfolding broadcast
+returns c = c.equal.ensures
