@@ -1,6 +1,6 @@
 -- The runs of octets that a card is encoded by: where they lie, and which of them hold what.
 use Prim.Native.Nat.{ℕ, zero, suc, ◌+◌, ◌*◌, ◌≤◌, ◌<◌}
-use mathlib.Core.Path.{◌≡◌}
+use mathlib.Core.Path.{◌≡◌, subst, sym}
 use mathlib.Core.List.{List, [], ◌∷◌, ◌++◌}
 use mathlib.Core.Logic.{inl, inr}
 use native.Mathlib.Omega.{arith}
@@ -59,7 +59,7 @@ contents_spare (r ∷ l) at m s zero k h = (
 contents_spare (r ∷ l) at m s (suc i) k h =
     let e : at + record_size * suc i + k ≡ at + record_size + record_size * i + k = omega arith in (
       inl (inr (omega (arith, contents-length r (s 0 (omega arith))))),
-      rw e (contents_spare l (at + record_size) m (stored_tail r l s) i k h),
+      subst (λ (x : ℕ). AllSpare m x (contents_puts (at + record_size) l)) (sym e) (contents_spare l (at + record_size) m (stored_tail r l s) i k h),
     )
 
 pub phase_length : (p : Phase) → length (phase_image p) ≤ 4

@@ -1,0 +1,6 @@
+-- `kind_known` tests the kind's octet.
+use borrow.Author.Rules.{rules}
+use Rattle.card_memory.proofs.legibility.kind_known.Goals as goal
+
+pub returns : goal.returns
+returns c = rw c.octet.ensures
