@@ -1,6 +1,5 @@
 -- `decode` reads field after field.
 use Rattle.tool_memory.specs.Decoding.{decoded}
-use borrow.Author.Rules.{rules}
 use Rattle.tool_memory.proofs.decode.Goals as goal
 
 pub returns : goal.returns

@@ -1,7 +1,6 @@
 -- `encode` puts the parts of a tool one after the other.
 use Rattle.tool_memory.specs.Encoding.{encoded}
 use Rattle.receiver_memory.specs.Puts.{put_all}
-use borrow.Author.Rules.{rules}
 use Rattle.tool_memory.proofs.encode.Goals as goal
 
 pub returns : goal.returns

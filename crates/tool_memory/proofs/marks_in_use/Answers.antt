@@ -1,7 +1,6 @@
 -- `marks_in_use` tests the two marks.
 use borrow.Author.Tests.{le-leb, lt-leb}
 use Rattle.tool_memory.specs.Decoding.{marks_in_use}
-use borrow.Author.Rules.{rules}
 use Rattle.tool_memory.proofs.marks_in_use.Goals as goal
 
 pub returns-then-octet-gt-LAST_MARK : goal.returns-then-octet-gt-LAST_MARK

@@ -1,8 +1,6 @@
 -- `phase_in` is the phase of the tool that the memory holds, by the test of the marks.
 use mathlib.Core.Path.{sym, ◌∙◌}
-use borrow.Author.Tests.{not-true, not-false}
 use Rattle.tool_memory.specs.Decoding.{decoded}
-use borrow.Author.Rules.{rules}
 use Rattle.tool_memory.proofs.phase_in.Goals as goal
 
 pub returns-then-not-marks_in_use : goal.returns-then-not-marks_in_use

@@ -1,6 +1,5 @@
 -- `put_mark` puts its three octets.
 use Rattle.receiver_memory.specs.Puts.{put_all}
-use borrow.Author.Rules.{rules}
 use Rattle.tool_memory.proofs.put_mark.Goals as goal
 
 pub returns : goal.returns

@@ -1,6 +1,5 @@
 -- `put_request` puts its two fields.
 use Rattle.receiver_memory.specs.Puts.{put_all}
-use borrow.Author.Rules.{rules}
 use Rattle.tool_memory.proofs.put_request.Goals as goal
 
 pub returns : goal.returns

@@ -1,6 +1,5 @@
 -- `waking_in` reads the two fields.
 use Rattle.tool_memory.specs.Decoding.{waking_in}
-use borrow.Author.Rules.{rules}
 use Rattle.tool_memory.proofs.waking_in.Goals as goal
 
 pub returns : goal.returns

@@ -1,6 +1,5 @@
 -- `number_at` is a part in an array.
 use Rattle.receiver_memory.specs.Fields.{field_at}
-use borrow.Author.Rules.{rules}
 use Rattle.tool_memory.proofs.fields.number_at.Goals as goal
 
 pub returns : goal.returns

@@ -1,7 +1,6 @@
 -- `phase_of` goes by the mark.
 use borrow.Author.Tests.{ne_eqb}
 use Rattle.tool_memory.specs.Marks.{phase_of}
-use borrow.Author.Rules.{rules}
 use Rattle.tool_memory.proofs.marks.phase_of.Goals as goal
 
 pub returns-in-0 : goal.returns-in-0

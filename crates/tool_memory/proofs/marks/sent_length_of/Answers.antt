@@ -1,5 +1,4 @@
 -- `sent_length_of` goes by the phase.
-use borrow.Author.Rules.{rules}
 use Rattle.tool_memory.proofs.marks.sent_length_of.Goals as goal
 
 pub returns-in-Programming : goal.returns-in-Programming
