@@ -1,0 +1,6 @@
+-- `show` lays the DATA over the front.
+use borrow.Author.Rules.{rules}
+use Rattle.tool_exports.proofs.events.show.Goals as goal
+
+pub returns : goal.returns
+returns c = rw (c.put.ensures, c.part.ensures)
