@@ -1,5 +1,4 @@
 -- `conclude` stores the tool and gives the number.
-use borrow.Author.Rules.{rules}
 use Rattle.tool_exports.proofs.events.conclude.Goals as goal
 
 pub returns : goal.returns

@@ -1,6 +1,5 @@
 -- The exported octet is the tool's octet on the tool that the memory holds.
 use lib.ListN.{length}
-use borrow.Author.Rules.{rules}
 use Rattle.tool.specs.Events.{after_octet}
 use Rattle.tool.specs.Events.{after}
 use Rattle.tool_exports.specs.Outcomes.{octet_outcome}

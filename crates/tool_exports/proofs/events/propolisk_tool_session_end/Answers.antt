@@ -2,7 +2,6 @@
 use mathlib.Core.Path.{ap, ◌∙◌}
 use Rattle.tool.specs.declared.Tool.{Tool}
 use Rattle.tool.specs.Parts.{Told, told}
-use borrow.Author.Rules.{rules}
 use Rattle.tool.specs.Events.{after_session_end, after}
 use Rattle.tool_exports.specs.Outcomes.{event_shown, event_outcome}
 use Rattle.tool_exports.proofs.events.propolisk_tool_session_end.Goals as goal

@@ -1,6 +1,5 @@
 -- `settle` leaves cells and DATA where the octet has a number, and writes them else.
 use Rattle.tool_exports.proofs.Given.{octet_refused, octet_shown_lem}
-use borrow.Author.Rules.{rules}
 use Rattle.tool_exports.proofs.events.settle.Goals as goal
 
 pub returns-then-number-ne-NONE : goal.returns-then-number-ne-NONE

@@ -1,5 +1,4 @@
 -- `show` lays the DATA over the front.
-use borrow.Author.Rules.{rules}
 use Rattle.tool_exports.proofs.events.show.Goals as goal
 
 pub returns : goal.returns

@@ -1,6 +1,5 @@
 -- The exported request is the tool's request on the tool that the memory holds.
 use lib.ListN.{length}
-use borrow.Author.Rules.{rules}
 use Rattle.tool.specs.Requests.{reading, after_asking}
 use Rattle.tool.specs.Events.{after}
 use Rattle.tool_exports.specs.Outcomes.{request_outcome}

@@ -1,5 +1,4 @@
 -- `settle` leaves the cells where the request is refused, and writes them else.
-use borrow.Author.Rules.{rules}
 use Rattle.tool_exports.proofs.Given.{settled_refused, settled_shown}
 use Rattle.tool_exports.proofs.requests.settle.Goals as goal
 

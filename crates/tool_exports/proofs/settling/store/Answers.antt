@@ -1,6 +1,5 @@
 -- `store` leaves the memory at 12 and 17, and encodes the tool else.
 use borrow.Author.Tests.{eq-eqb, ne_eqb}
-use borrow.Author.Rules.{rules}
 use Rattle.tool_exports.specs.Outcomes.{stored}
 use Rattle.tool_exports.proofs.settling.store.Goals as goal
 
