@@ -1,0 +1,7 @@
+-- `replay` runs the history over the card that setup hands back: demand 3's law then gives the claim.
+use Rattle.history.proofs.History.{owned_arrays, replayed}
+use Rattle.history.proofs.replay.Goals as goal
+
+pub returns : goal.returns
+returns c = let s = c in
+    replayed _ _ s.args.records (owned_arrays s.args.records _ s.well_formed.1.1.0) _ c.setup-start.result c.setup-start.ensures c.run-last.result c.run-last.ensures
