@@ -1,5 +1,4 @@
 -- What owning a card by value tells of its lists: the arrays' lengths.
-use Prim.Native.Nat.{ℕ}
 use mathlib.Core.List.{List}
 use mathlib.Core.Path.{◌≡◌}
 use lib.ListN.{length}

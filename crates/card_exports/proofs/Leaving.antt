@@ -1,10 +1,10 @@
 -- What every refusal leaves of card memory, number by number, whatever the memory holds.
 use Prim.Native.Nat.{ℕ, ◌≤◌}
 use mathlib.Core.Path.{◌≡◌, refl, ap, ◌∙◌}
-use mathlib.Core.Bool.{Bool, true, false, cond, ◌||◌}
+use mathlib.Core.Bool.{Bool, true, false, cond}
 use mathlib.Core.List.{List}
 use mathlib.Core.Logic.{inl, inr}
-use lib.Dec.{eqb, leb}
+use lib.Dec.{leb}
 use lib.ListN.{length, get_or}
 use borrow.Author.Tests.{leb-true, ne_eqb}
 use Rattle.octets.proofs.Below.{Below}
@@ -16,12 +16,11 @@ use Rattle.card.proofs.Keeping.{Unchanged, course, meter_write-refused}
 use Rattle.card_memory.specs.Layout.{size}
 use Rattle.card_memory.specs.Decoding.{decoded}
 use Rattle.card_memory.specs.Encoding.{encoded}
-use Rattle.card_memory.specs.Leaving.{OutsideState}
 use Rattle.card_memory.proofs.CardPuts.{Shaped}
 use Rattle.card_memory.proofs.EncodableCards.{decoded_shaped}
 use Rattle.card_memory.proofs.Held.{receiver_alters, state_alters, encoded-decoded}
 use Rattle.card_exports.specs.Outcome.{refused, sound_memory, lengths_fit, done, call_outcome}
-use Rattle.card_exports.specs.Leaving.{Unmade, Alters, nothing, receiver, state, bus_alters, alters, Outside, StaysAt}
+use Rattle.card_exports.specs.Leaving.{receiver, state, bus_alters, Outside, StaysAt}
 use Rattle.card_exports.proofs.Refusals.{bad_frame_keeps}
 use Rattle.card_exports.proofs.Unchanged.{Passed, call_passed, passed_made}
 

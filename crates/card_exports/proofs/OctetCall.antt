@@ -5,14 +5,13 @@ use mathlib.Core.Bool.{Bool, true, false, cond, and-eq-true_iff}
 use mathlib.Core.List.{List}
 use lib.Dec.{leb}
 use lib.ListN.{length}
-use borrow.Author.Tests.{le-leb, leb-true}
+use borrow.Author.Tests.{leb-true}
 use Rattle.octets.specs.Splice.{fronted}
 use Rattle.numbers.specs.Table.{broken_rule, wrong_length}
 use Rattle.card.specs.declared.Stepped.{Stepped}
 use Rattle.card.specs.Loan.{usable, lending}
 use Rattle.card.specs.Numbers.{answer_number}
 use Rattle.card.specs.Parts.{Response, telling, Gives}
-use Rattle.card.specs.Soundness.{sound}
 use Rattle.card.specs.Events.{Call, octet_call, after_octet}
 use Rattle.card.specs.Events as events
 use Rattle.card.proofs.Keeping.{course}

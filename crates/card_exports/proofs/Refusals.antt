@@ -11,7 +11,7 @@ use Rattle.frame.specs.declared.content.Fields.{Fields}
 use Rattle.frame.specs.Content.{fields_of, data_of}
 use Rattle.records.specs.declared.Cause.{Cause}
 use Rattle.records.specs.declared.Cause.TheVariants.{Meter}
-use Rattle.records.specs.Finding.{attributes_of, find_readable}
+use Rattle.records.specs.Finding.{attributes_of}
 use Rattle.records.proofs.Refusals.{Bounded, readable_bounded}
 use Rattle.records.proofs.Writes.{write_cases, write_number}
 use Rattle.receiver.specs.Receiving.{Reception, awaiting, skipping, partial, Outcome, silent_outcome, dropped_outcome, complete_outcome, Step, on_octet, on_gap}

@@ -1,6 +1,6 @@
 -- At 12 and 17 everything stays of what is lent, for every memory and every call; a refused setup or reading leaves all that it could write but, with 10, the cell.
 use Prim.Native.Nat.{ℕ, ◌≤◌}
-use mathlib.Core.Path.{◌≡◌, refl, sym, ap, subst, ◌∙◌}
+use mathlib.Core.Path.{◌≡◌, refl}
 use mathlib.Core.Bool.{Bool, true, false, cond, and-eq-true_iff}
 use mathlib.Core.List.{List}
 use mathlib.Core.Logic.{inl, inr}
@@ -8,7 +8,7 @@ use native.Mathlib.Omega.{arith}
 use lib.Dec.{eqb, leb}
 use lib.ListN.{length}
 use borrow.Author.Tests.{leb-true}
-use Rattle.numbers.specs.Table.{none, too_long, not_open, broken_rule, wrong_length}
+use Rattle.numbers.specs.Table.{none, not_open, broken_rule, wrong_length}
 use Rattle.numbers.specs.Answer.{Answer, given, refused, refused_at}
 use Rattle.records.specs.Finding.{attributes_of, find}
 use Rattle.records.proofs.Refusals.{Bounded, find_bounded}

@@ -24,8 +24,7 @@ fn show(stored: Record, data: &mut [u8; layout::STORAGE_SIZE]) -> usize
 }
 
 // 17 for the memory, 12, then 10; whether the record is readable over the bus is not asked. A refusal leaves the data; with 10 the length is 0.
-#[unsafe(no_mangle)]
-pub extern "C" fn propolisk_card_read(
+pub fn propolisk_card_read(
     memory: &[u8],
     tab: u8,
     data: &mut [u8; layout::STORAGE_SIZE],

@@ -22,8 +22,7 @@ fn judge(answer: Answer, known: bool) -> u8
 }
 
 // A refused setup leaves the memory; what the memory held before is not looked at.
-#[unsafe(no_mangle)]
-pub extern "C" fn propolisk_card_setup(
+pub fn propolisk_card_setup(
     memory: &mut [u8],
     address: &[u8],
     key: &[u8],

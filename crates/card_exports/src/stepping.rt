@@ -25,8 +25,7 @@ fn lengths_fit(room: usize, na2: usize, reply: usize) -> bool
 }
 
 // An octet from the bus, with a fresh NA2 and a reply buffer lent. The length is that of the reply, 0 where there is none; 17 and 12 leave it.
-#[unsafe(no_mangle)]
-pub extern "C" fn propolisk_card_step_octet(
+pub fn propolisk_card_step_octet(
     memory: &mut [u8],
     octet: u8,
     na2: &[u8],
@@ -61,8 +60,7 @@ pub extern "C" fn propolisk_card_step_octet(
 }
 
 // The gap that ends a frame.
-#[unsafe(no_mangle)]
-pub extern "C" fn propolisk_card_step_gap(memory: &mut [u8]) -> u8
+pub fn propolisk_card_step_gap(memory: &mut [u8]) -> u8
     ensures { record { number = result; memory = memory.new } ≡ call_outcome memory.old gap }
 {
     if memory.len() < layout::SIZE {
@@ -76,8 +74,7 @@ pub extern "C" fn propolisk_card_step_gap(memory: &mut [u8]) -> u8
 }
 
 // The end of the session.
-#[unsafe(no_mangle)]
-pub extern "C" fn propolisk_card_step_session_end(memory: &mut [u8]) -> u8
+pub fn propolisk_card_step_session_end(memory: &mut [u8]) -> u8
     ensures { record { number = result; memory = memory.new } ≡ call_outcome memory.old session_end }
 {
     if memory.len() < layout::SIZE {
@@ -91,8 +88,7 @@ pub extern "C" fn propolisk_card_step_session_end(memory: &mut [u8]) -> u8
 }
 
 // A write by the meter itself: 10, then 7, 8, 9.
-#[unsafe(no_mangle)]
-pub extern "C" fn propolisk_card_meter_write(memory: &mut [u8], tab: u8, data: &[u8]) -> u8
+pub fn propolisk_card_meter_write(memory: &mut [u8], tab: u8, data: &[u8]) -> u8
     ensures { record { number = result; memory = memory.new } ≡ call_outcome memory.old (meter_write tab «data».now) }
 {
     if memory.len() < layout::SIZE {

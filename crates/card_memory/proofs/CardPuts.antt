@@ -15,7 +15,7 @@ use Rattle.card.specs.declared.Phase.{Phase}
 use Rattle.card.specs.declared.Phase.TheVariants.{Idle, Waiting}
 use Rattle.card.specs.declared.Card.{Card}
 use Rattle.card.specs.Soundness.{waiting_length}
-use Rattle.card_memory.specs.Layout.{wait_mark_at, wait_data_at, wait_data_size, na2_size, count_at, records_at, length_at, storage_size, record_size, record_places, receiver_at, size}
+use Rattle.card_memory.specs.Layout.{wait_mark_at, wait_data_size, na2_size, count_at, records_at, length_at, storage_size, record_size, record_places, receiver_at, size}
 use Rattle.card_memory.specs.Encoding.{phase_image, contents_image, contents_puts, wait_puts, card_puts}
 
 -- records whose storages have their length

@@ -1,6 +1,6 @@
 -- The memory that setup leaves: each field where setup put it, and the records of the entries in use.
 use Prim.Native.Nat.{ℕ, ◌+◌, ◌*◌, ◌≤◌, ◌<◌, min}
-use mathlib.Core.Path.{◌≡◌, refl, sym, ap, ◌∙◌}
+use mathlib.Core.Path.{◌≡◌, sym, ap, ◌∙◌}
 use mathlib.Core.List.{List, [], ◌∷◌}
 use mathlib.Core.Logic.{inl, inr}
 use native.Mathlib.Omega.{arith}
@@ -11,8 +11,7 @@ use Rattle.octets.proofs.Parts.{length_part, get_or_part}
 use Rattle.records.specs.declared.Record.{Record}
 use Rattle.records.specs.Finding.{blank}
 use Rattle.receiver_memory.specs.Fields.{field_at}
-use Rattle.receiver_memory.specs.Puts.{Put, put}
-use Rattle.receiver_memory.specs.Receiver as receiver
+use Rattle.receiver_memory.specs.Puts.{Put}
 use Rattle.receiver_memory.proofs.Puts.{Rising, Among, here, later, put_all-length, put_there, spared, field_is}
 use Rattle.card_memory.specs.Layout.{address_at, address_size, key_at, key_size, wait_mark_at, count_at, records_at, kind_at, record_size, record_places, records_size, receiver_at, size}
 use Rattle.card_memory.specs.Decoding.{record_in, records_in}

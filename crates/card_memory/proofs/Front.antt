@@ -1,15 +1,13 @@
 -- Two memories with the same octets in the layout hold the same card: what lies behind is not read.
 use Prim.Native.Nat.{ℕ, zero, suc, ◌+◌, ◌*◌, ◌≤◌, ◌<◌, min}
-use mathlib.Core.Path.{◌≡◌, refl, ap}
+use mathlib.Core.Path.{◌≡◌, refl}
 use mathlib.Core.List.{List}
 use native.Mathlib.Omega.{arith}
-use lib.Dec.{eqb}
 use lib.ListN.{length, get_or}
-use Rattle.octets.specs.Part.{part_of}
 use Rattle.receiver_memory.specs.Receiver as receiver
 use Rattle.receiver_memory.proofs.Puts.{part_agrees, field_agree}
 use Rattle.card_memory.specs.Layout.{address_at, address_size, key_at, key_size, wait_mark_at, wait_adp_at, wait_tab_at, wait_length_at, wait_data_at, wait_data_size, na2_at, na2_size, count_at, records_at, kind_at, record_size, record_places, receiver_at, receiver_mark_at, size}
-use Rattle.card_memory.specs.Decoding.{record_in, records_in, phase_in, decoded}
+use Rattle.card_memory.specs.Decoding.{records_in, phase_in, decoded}
 use Rattle.card_memory.specs.Legibility.{marks_in_use, legible}
 use Rattle.card_memory.proofs.RoundTrip.{kinds_agree}
 

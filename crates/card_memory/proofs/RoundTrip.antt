@@ -1,7 +1,7 @@
 -- Decoding an encoded card gives the card back, and what encoding leaves as it was.
 use Prim.Native.Nat.{ℕ, zero, suc, ◌+◌, ◌*◌, ◌≤◌, ◌<◌, min}
 use mathlib.Core.Path.{◌≡◌, refl, sym, ap, ◌∙◌}
-use mathlib.Core.Bool.{Bool, true, false, ◌&&◌, and-eq-true_iff}
+use mathlib.Core.Bool.{Bool, true, false, and-eq-true_iff}
 use mathlib.Core.List.{List}
 use native.Mathlib.Omega.{arith}
 use lib.Dec.{leb}
@@ -12,7 +12,7 @@ use Rattle.octets.proofs.Parts.{length_part, get_or_part}
 use Rattle.records.specs.declared.Record.{Record}
 use Rattle.records.specs.Finding.{blank}
 use Rattle.receiver_memory.specs.Fields.{mark_of, field_at}
-use Rattle.receiver_memory.specs.Puts.{Put, put}
+use Rattle.receiver_memory.specs.Puts.{Put}
 use Rattle.receiver_memory.specs.Receiver as receiver
 use Rattle.receiver_memory.proofs.Fields.{narrowed_fits}
 use Rattle.receiver_memory.proofs.Puts.{Among, here, later, AllSpare, put_all-length, put_there, spared, field_agree, field_is}
@@ -21,13 +21,13 @@ use Rattle.card.specs.declared.Phase.{Phase}
 use Rattle.card.specs.declared.Phase.TheVariants.{Idle, Waiting}
 use Rattle.card.specs.declared.Card.{Card}
 use Rattle.card.specs.Soundness.{waiting_length}
-use Rattle.card_memory.specs.Layout.{address_at, address_size, key_at, key_size, wait_mark_at, wait_data_at, wait_data_size, na2_at, na2_size, count_at, records_at, kind_at, length_at, storage_at, storage_size, record_size, record_places, receiver_at, receiver_mark_at, size}
+use Rattle.card_memory.specs.Layout.{address_at, address_size, key_at, key_size, wait_mark_at, wait_data_at, wait_data_size, na2_at, na2_size, count_at, records_at, kind_at, length_at, storage_at, storage_size, record_size, record_places, receiver_at, size}
 use Rattle.card_memory.specs.Decoding.{attributes_in, record_in, records_in, phase_in, identity_in, decoded}
 use Rattle.card_memory.specs.Encoding.{phase_image, contents_image, card_puts, encoded}
 use Rattle.card_memory.specs.Legibility.{kinds_known, marks_in_use, used_kinds_known, legible}
 use Rattle.card_memory.proofs.RecordRuns.{length_records, record_at_lem}
 use Rattle.card_memory.proofs.Shape.{part_long}
-use Rattle.card_memory.proofs.CardPuts.{contents-length, contents_among, phase_length, Shaped, card_rising, in_wait, in_contents, in_receiver, identity_spare, count_spare, attributes_spare}
+use Rattle.card_memory.proofs.CardPuts.{contents-length, contents_among, Shaped, card_rising, in_wait, in_contents, in_receiver, identity_spare, count_spare, attributes_spare}
 
 -- The memory holds what no call alters of the card, and has room for the rest.
 pub record Encodable (m : List ℕ) (c : Card) : Type 0 where

@@ -1,10 +1,9 @@
 -- A call over good memory leaves good memory, which holds the card that the same call makes of the card held before.
-use Prim.Native.Nat.{ℕ, ◌≤◌, ◌<◌}
-use mathlib.Core.Path.{◌≡◌, refl, sym, ap, ◌∙◌}
+use Prim.Native.Nat.{ℕ, ◌≤◌}
+use mathlib.Core.Path.{◌≡◌, refl}
 use mathlib.Core.Bool.{Bool, true, false, cond, true≢false}
 use mathlib.Core.List.{List}
 use native.Mathlib.Omega.{arith}
-use lib.Dec.{leb}
 use lib.ListN.{length}
 use borrow.Author.Tests.{le-leb}
 use Rattle.numbers.specs.Table.{broken_rule, wrong_length}
@@ -15,7 +14,6 @@ use Rattle.card.proofs.Keeping.{Whole, course}
 use Rattle.card.proofs.Reached.{reached}
 use Rattle.card_memory.specs.Layout.{size}
 use Rattle.card_memory.specs.Decoding.{decoded}
-use Rattle.card_memory.specs.Encoding.{encoded}
 use Rattle.card_memory.specs.Legibility.{legible}
 use Rattle.card_memory.proofs.CardPuts.{Shaped}
 use Rattle.card_memory.proofs.RoundTrip.{encoded-length, encoded-legible, decoded-encoded}

@@ -1,6 +1,6 @@
 -- Demand 3 over the exported calls: the memory that setup leaves holds a card that agrees with the fresh book, and a history keeps them in agreement.
 use Prim.Native.Nat.{ℕ, zero, suc, ◌+◌, ◌*◌, ◌≤◌, ◌<◌}
-use mathlib.Core.Path.{◌≡◌, refl, sym, ap, subst, ◌∙◌}
+use mathlib.Core.Path.{◌≡◌, refl, ap, subst, ◌∙◌}
 use mathlib.Core.Bool.{true}
 use mathlib.Core.List.{List, [], ◌∷◌, map}
 use native.Mathlib.Decide.{dec_lt}
@@ -8,7 +8,6 @@ use native.Mathlib.Omega.{arith}
 use lib.ListN.{length, get_or}
 use Rattle.octets.proofs.Parts.{get_or_part}
 use Rattle.octets.specs.Part.{part_of}
-use Rattle.numbers.specs.Table.{none}
 use Rattle.des.specs.WeakKeys.{weak}
 use Rattle.frame.specs.Addresses.{broadcast}
 use Rattle.records.specs.declared.Record.{Record}

@@ -9,7 +9,7 @@ use lib.Dec.{leb}
 use lib.ListN.{length, take, drop, get_or, length-append, length-take, take-append-drop, drop_of_length-le, get_or-append}
 use lib.Seq.{take_all, get_or-take, get_or-append-add}
 use borrow.Author.Tests.{leb-true, leb-false}
-use Rattle.numbers.specs.Table.{none, broken_rule, wrong_length}
+use Rattle.numbers.specs.Table.{none, wrong_length}
 use Rattle.card.specs.declared.Card.{Card}
 use Rattle.card.specs.Events.{Call, after}
 use Rattle.history.specs.Claim as by_value

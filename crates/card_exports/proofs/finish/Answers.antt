@@ -1,7 +1,6 @@
 -- `finish` writes the card back unless it was refused with 12.
 use borrow.Author.Tests.{eq-eqb, ne_eqb}
 use Rattle.card_exports.specs.Outcome.{finished}
-use borrow.Author.Rules.{rules}
 use Rattle.card_exports.proofs.finish.Goals as goal
 
 pub returns-then-number-eq-BROKEN_RULE : goal.returns-then-number-eq-BROKEN_RULE

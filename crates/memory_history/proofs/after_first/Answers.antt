@@ -2,7 +2,6 @@
 use mathlib.Core.Path.{ap}
 use Rattle.history.specs.Encoding.{call_of, call_at}
 use Rattle.card_exports.specs.Outcome.{Outcome}
-use borrow.Author.Rules.{rules}
 use Rattle.memory_history.proofs.after_first.Goals as goal
 
 pub returns-in-Octet : goal.returns-in-Octet

@@ -1,8 +1,5 @@
 -- Where fewer octets are lent than the memory has, what is behind them stays; else the whole memory is lent.
-use Prim.Native.Nat.{◌≤◌}
 use mathlib.Core.Path.{sym}
-use native.Mathlib.Omega.{arith}
-use lib.ListN.{length}
 use lib.Seq.{length-take-le}
 use Rattle.memory_history.specs.Claim.{lent_outcome}
 use Rattle.memory_history.proofs.Lending.{whole_lent}

@@ -8,7 +8,6 @@ use Rattle.history.specs.Encoding.{longest_lent}
 use Rattle.card.specs.Events.{octet_call}
 use Rattle.card_exports.specs.Outcome.{Outcome, Replied, call_outcome}
 use Rattle.card_exports.proofs.OctetCall.{octet_call_lem}
-use borrow.Author.Rules.{rules}
 use Rattle.memory_history.proofs.after_octet.Goals as goal
 
 pub slice_bounds-propolisk_card_step_octet-end : goal.slice_bounds-propolisk_card_step_octet-end

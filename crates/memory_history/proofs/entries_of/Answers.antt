@@ -1,6 +1,5 @@
 -- `entries_of` puts the octets over the front of an array of zeros.
 use Rattle.memory_history.specs.Encoding.{entries_of}
-use borrow.Author.Rules.{rules}
 use Rattle.memory_history.proofs.entries_of.Goals as goal
 
 pub returns : goal.returns

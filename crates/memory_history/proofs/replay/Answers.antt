@@ -1,6 +1,5 @@
 -- `replay` sets up and runs the history over the memory that setup leaves: demand 3's law then gives the claim.
 use Rattle.memory_history.proofs.Replayed.{replayed}
-use borrow.Author.Rules.{rules}
 use Rattle.memory_history.proofs.replay.Goals as goal
 
 pub returns : goal.returns

@@ -1,9 +1,8 @@
 -- The loop goes on from a memory and a place from which the calls that are left end as the whole history does.
-use Prim.Native.Nat.{ℕ, ◌≤◌, ◌<◌, ◌+◌, ◌-◌}
-use mathlib.Core.Path.{◌≡◌, refl, ◌∙◌}
+use Prim.Native.Nat.{◌≤◌, ◌<◌, ◌+◌}
+use mathlib.Core.Path.{refl, ◌∙◌}
 use lib.ListN.{length}
-use Rattle.memory_history.proofs.Decoding.{Going, going_start, going_next, going_done, call_taken}
-use borrow.Author.Rules.{rules}
+use Rattle.memory_history.proofs.Decoding.{going_start, going_next, going_done, call_taken}
 use native.Mathlib.Omega.{arith}
 use Rattle.memory_history.proofs.run.Goals.{After-size_at-at}
 use Rattle.memory_history.proofs.run.Goals as goal

@@ -1,10 +1,8 @@
 -- The loop goes on from a memory and a place from which the calls that are left end as the whole history does.
-use Prim.Native.Nat.{ℕ, ◌≤◌, ◌<◌, ◌+◌, ◌-◌}
-use mathlib.Core.Path.{◌≡◌, refl, ◌∙◌}
+use Prim.Native.Nat.{ℕ, ◌-◌}
+use mathlib.Core.Path.{◌≡◌}
 use lib.ListN.{length}
-use Rattle.memory_history.proofs.Decoding.{Going, going_start, going_next, going_done, call_taken}
-use borrow.Author.Rules.{rules}
-use native.Mathlib.Omega.{arith}
+use Rattle.memory_history.proofs.Decoding.{Going}
 use Rattle.memory_history.proofs.run.Given as goal
 
 abbrev pub invariant-loop-at : goal.invariant-loop-at

@@ -1,12 +1,8 @@
 -- `size_at` by whether the octets have a room.
-use mathlib.Core.Path.{ap, ◌∙◌}
 use native.Mathlib.Omega.{arith}
-use lib.ListN.{length, length-drop, drop}
-use borrow.Author.Tests.{lt-leb, le-leb}
-use Rattle.history.specs.declared.calls.Head.{Head}
+use borrow.Author.Tests.{lt-leb}
 use Rattle.memory_history.specs.Encoding.{room_width, memory_size_at}
 use Rattle.memory_history.proofs.Decoding.{size_read}
-use borrow.Author.Rules.{rules}
 use Rattle.memory_history.proofs.size_at.Goals as goal
 
 pub returns-then-history-lt-ROOM_WIDTH : goal.returns-then-history-lt-ROOM_WIDTH

@@ -2,7 +2,6 @@
 use Prim.Native.Nat.{ℕ, zero, suc}
 use mathlib.Core.Path.{◌≡◌, refl}
 use mathlib.Core.Bool.{true}
-use borrow.Author.Rules.{rules}
 use Rattle.frame.specs.declared.codes.Command.{Command}
 use Rattle.octets.specs.Between.{between}
 use Rattle.frame.specs.Layout.{layout_of, within}

@@ -2,8 +2,6 @@
 use Prim.Native.Nat.{ℕ, zero, suc}
 use mathlib.Core.Path.{◌≡◌, refl, sym, ap, ◌∙◌}
 use native.Mathlib.Omega.{arith}
-use borrow.Author.Rules.{rules}
-use borrow.Author.Tests.{not-true, not-false}
 use Rattle.numbers.specs.Table.{none}
 use Rattle.records.specs.Numbers.{answer_number as write_number}
 use Rattle.records.proofs.Refusals.{refusal_bounds}

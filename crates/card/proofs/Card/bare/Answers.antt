@@ -1,5 +1,4 @@
 -- `Card::bare` is a fresh card without records.
-use borrow.Author.Rules.{rules}
 use Rattle.card.proofs.Card.bare.Goals as goal
 
 pub returns : goal.returns

@@ -1,5 +1,4 @@
 -- `Card::fresh` puts an empty receiver beside what setup gives.
-use borrow.Author.Rules.{rules}
 use Rattle.card.proofs.Card.fresh.Goals as goal
 
 pub returns : goal.returns

@@ -1,8 +1,6 @@
 -- `Card::gap` tests the card, and takes over what its receiver gives.
 use mathlib.Core.Path.{◌≡◌, refl, ◌∙◌}
 use mathlib.Core.Bool.{true}
-use borrow.Author.Rules.{rules}
-use borrow.Author.Tests.{not-true, not-false}
 use Rattle.receiver.proofs.Follows.{gap_follows}
 use Rattle.card.specs.Events.{after_gap}
 use Rattle.card.proofs.Shape.{receiver_length}

@@ -2,7 +2,6 @@
 use mathlib.Core.Path.{◌≡◌, ap, sym, ◌∙◌}
 use Prim.Native.Nat.{ℕ}
 use lib.ListN.{length}
-use borrow.Author.Rules.{rules}
 use borrow.Enum.Refused.{opened}
 use Rattle.receiver.specs.Receiver.{most_held}
 use Rattle.receiver.specs.Receiving.{on_octet}
@@ -14,7 +13,6 @@ use Rattle.card.proofs.Shape.{receiver_length}
 use Rattle.card.proofs.Receptions.{receiver_sound, first_octet, no_frame_given, frame_given}
 use Rattle.card.proofs.Giving.{silent_by}
 use Rattle.receiver.specs.declared.Received.{Received}
-use Rattle.receiver.specs.declared.Event.{Event}
 use Rattle.receiver.specs.declared.Event.TheVariants.{Good}
 use Rattle.frame.specs.declared.codes.Command.{Command}
 use Rattle.card.specs.declared.Card.{Card}

@@ -3,7 +3,6 @@ use mathlib.Core.Path.{◌≡◌, sym}
 use native.Mathlib.Omega.{arith}
 use lib.ListN.{length}
 use lib.Seq.{length-take-le}
-use borrow.Author.Rules.{rules}
 use Rattle.frame.specs.Sizes.{longest_frame}
 use Rattle.card.proofs.Amounts.{good_data}
 use Rattle.card.proofs.Card.heard_frame.Goals as goal

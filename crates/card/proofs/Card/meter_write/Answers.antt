@@ -1,7 +1,5 @@
 -- `Card::meter_write` tests the card, then writes.
 use mathlib.Core.Path.{refl}
-use borrow.Author.Rules.{rules}
-use borrow.Author.Tests.{not-true, not-false}
 use Rattle.card.specs.Events.{after_meter_write}
 use Rattle.card.proofs.Giving.{told}
 use Rattle.card.proofs.Card.meter_write.Goals as goal

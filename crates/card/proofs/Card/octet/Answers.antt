@@ -2,8 +2,6 @@
 use mathlib.Core.Path.{refl, sym, ap, ◌∙◌}
 use mathlib.Core.Bool.{not}
 use lib.ListN.{replicate}
-use borrow.Author.Rules.{rules}
-use borrow.Author.Tests.{not-false}
 use Rattle.octets.proofs.Splice.{spliced_whole}
 use Rattle.frame.specs.Sizes.{number_width}
 use Rattle.card.proofs.Soundness.{sound_means}

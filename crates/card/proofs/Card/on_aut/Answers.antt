@@ -1,11 +1,7 @@
 -- `Card::on_aut` goes by the phase, then by the two tests of the AUT; the data that waits is a front part of the array.
-use Prim.Native.Nat.{◌≤◌}
 use mathlib.Core.Path.{◌≡◌, refl, sym, ap}
 use native.Mathlib.Omega.{arith}
-use lib.ListN.{length}
 use lib.Seq.{length-take-le}
-use borrow.Author.Rules.{rules}
-use borrow.Author.Tests.{not-true, not-false}
 use Rattle.octets.specs.Between.{between}
 use Rattle.frame.specs.declared.content.Fields.{Fields}
 use Rattle.frame.specs.Layout.{layout_of, within}

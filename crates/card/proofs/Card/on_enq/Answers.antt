@@ -1,13 +1,11 @@
 -- `Card::on_enq` sends the record that is found. A sound record's contents fit in DAT.
-use Prim.Native.Nat.{ℕ, ◌≤◌, ◌<◌}
+use Prim.Native.Nat.{ℕ, ◌≤◌}
 use mathlib.Core.Path.{◌≡◌, refl, sym, ap, ◌∙◌}
 use native.Mathlib.Omega.{arith}
-use lib.ListN.{length}
-use borrow.Author.Rules.{rules}
 use Rattle.octets.specs.Between.{between}
 use Rattle.frame.specs.Layout.{layout_of, within}
 use Rattle.numbers.specs.Answer.{given}
-use Rattle.records.specs.Sizes.{most_records, most_octets}
+use Rattle.records.specs.Sizes.{most_octets}
 use Rattle.records.specs.Numbers.{answer_of_found}
 use Rattle.records.specs.Finding.{attributes_of, find, find_readable, record_at}
 use Rattle.records.proofs.Grants.{readable_means}

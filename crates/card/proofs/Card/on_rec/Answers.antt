@@ -1,6 +1,5 @@
 -- `Card::on_rec` sends ECH and keeps what the exchange waits with.
 use mathlib.Core.Path.{refl}
-use borrow.Author.Rules.{rules}
 use Rattle.frame.specs.Layout.{layout_of, within}
 use Rattle.card.specs.Frames.{on_rec}
 use Rattle.card.proofs.Giving.{sent_by}

@@ -1,5 +1,4 @@
 -- `Card::on_trb` ends the wait, then writes.
-use borrow.Author.Rules.{rules}
 use Rattle.card.specs.Frames.{on_trb}
 use Rattle.card.proofs.Card.on_trb.Goals as goal
 

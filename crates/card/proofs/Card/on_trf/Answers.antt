@@ -1,6 +1,5 @@
 -- `Card::on_trf` ends the wait, then writes and replies.
 use mathlib.Core.Path.{refl}
-use borrow.Author.Rules.{rules}
 use Rattle.octets.specs.Between.{between}
 use Rattle.frame.specs.Layout.{layout_of, within}
 use Rattle.card.specs.Frames.{on_trf}

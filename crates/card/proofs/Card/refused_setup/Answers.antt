@@ -1,6 +1,5 @@
 -- `Card::refused_setup` hands back the bare card.
 use mathlib.Core.Path.{refl}
-use borrow.Author.Rules.{rules}
 use Rattle.card.proofs.Card.refused_setup.Goals as goal
 
 pub returns : goal.returns

@@ -1,8 +1,6 @@
 -- `Card::session_end` tests the card, ends the wait and empties the receiver.
 use mathlib.Core.Path.{◌≡◌, refl, ap, ◌∙◌}
 use mathlib.Core.Bool.{true}
-use borrow.Author.Rules.{rules}
-use borrow.Author.Tests.{not-true, not-false}
 use Rattle.receiver.specs.Receiving.{awaiting, on_session_end}
 use Rattle.receiver.specs.Receiver.{Response, holding}
 use Rattle.receiver.proofs.Follows.{session_end_follows}

@@ -1,6 +1,5 @@
 -- `Card::setup` tests the lengths; an address of six octets and a key of eight are then copied whole.
 use lib.ListN.{replicate}
-use borrow.Author.Rules.{rules}
 use borrow.Author.Tests.{eq-eqb, ne_eqb}
 use Rattle.octets.proofs.Splice.{spliced_whole}
 use Rattle.frame.specs.Sizes.{address_width, number_width}

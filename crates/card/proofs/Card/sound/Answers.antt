@@ -1,6 +1,4 @@
 -- `Card::sound` runs the five tests of the definition, in its order.
-use borrow.Author.Rules.{rules}
-use borrow.Author.Tests.{not-true, not-false}
 use Rattle.card.specs.Soundness.{sound}
 use Rattle.card.proofs.Card.sound.Goals as goal
 

@@ -2,7 +2,6 @@
 use Prim.Native.Nat.{ℕ}
 use mathlib.Core.List.{List}
 use mathlib.Core.Path.{◌≡◌, ap, ◌∙◌}
-use borrow.Author.Rules.{rules}
 use Rattle.records.specs.declared.Cause.{Cause}
 use Rattle.records.specs.declared.Records.{Records}
 use Rattle.records.specs.declared.Written.{Written}

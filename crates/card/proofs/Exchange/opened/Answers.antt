@@ -2,7 +2,6 @@
 use Prim.Native.Nat.{◌≤◌}
 use lib.ListN.{length}
 use native.Mathlib.Omega.{arith}
-use borrow.Author.Rules.{rules}
 use Rattle.octets.proofs.Splice.{spliced_front}
 use Rattle.card.proofs.Amounts.{rec_data}
 use Rattle.card.proofs.Shape.{content_length}

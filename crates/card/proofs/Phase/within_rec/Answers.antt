@@ -1,5 +1,4 @@
 -- `Phase::within_rec` goes by the phase: only an exchange that waits has octets.
-use borrow.Author.Rules.{rules}
 use Rattle.card.proofs.Phase.within_rec.Goals as goal
 
 pub returns-in-Idle : goal.returns-in-Idle

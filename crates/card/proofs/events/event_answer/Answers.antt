@@ -1,5 +1,4 @@
 -- `event_answer` goes by the event.
-use borrow.Author.Rules.{rules}
 use Rattle.card.proofs.events.event_answer.Goals as goal
 
 pub returns-in-Bad : goal.returns-in-Bad

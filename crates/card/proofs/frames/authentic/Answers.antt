@@ -1,5 +1,4 @@
 -- `authentic` compares the ADP, then ZA2 with NA2 enciphered.
-use borrow.Author.Rules.{rules}
 use borrow.Author.Tests.{eq-eqb, ne_eqb}
 use Rattle.card.specs.Frames.{authentic}
 use Rattle.card.proofs.frames.authentic.Goals as goal

@@ -1,5 +1,4 @@
 -- `write_answer` goes by the answer.
-use borrow.Author.Rules.{rules}
 use Rattle.card.proofs.frames.write_answer.Goals as goal
 
 pub returns-in-Accepted : goal.returns-in-Accepted

@@ -1,7 +1,6 @@
 -- `acknowledgement` goes by the answer's number: every one but none is answered with DRJ.
 use mathlib.Core.Path.{◌≡◌, refl, ◌∙◌}
 use Prim.Native.Nat.{ℕ, zero, suc}
-use borrow.Author.Rules.{rules}
 use Rattle.numbers.specs.Table.{none}
 use Rattle.frame.specs.declared.codes.Command.{Command}
 use Rattle.frame.specs.declared.codes.Command.TheVariants.{Drj}

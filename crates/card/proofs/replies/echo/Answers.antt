@@ -1,5 +1,4 @@
 -- `echo` puts NA1 enciphered and NA2 in the frame's fields.
-use borrow.Author.Rules.{rules}
 use Rattle.card.proofs.replies.echo.Goals as goal
 
 pub returns : goal.returns

@@ -1,5 +1,4 @@
 -- `send` builds a frame: neither refusal of the builder can come.
-use borrow.Author.Rules.{rules}
 use Rattle.frame.proofs.Sending.{sends, never_refused}
 use Rattle.card.proofs.replies.send.Goals as goal
 

@@ -1,5 +1,4 @@
 -- `send_bare` sends a frame whose DATA is empty.
-use borrow.Author.Rules.{rules}
 use Rattle.card.proofs.replies.send_bare.Goals as goal
 
 pub send-requires : goal.send-requires

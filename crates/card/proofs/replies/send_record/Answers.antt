@@ -4,7 +4,6 @@ use mathlib.Core.Path.{◌≡◌, sym}
 use native.Mathlib.Omega.{arith}
 use lib.ListN.{length}
 use lib.Seq.{length-take-le}
-use borrow.Author.Rules.{rules}
 use Rattle.octets.proofs.Bounds.{between_both}
 use Rattle.frame.specs.Layout.{layout_of, within}
 use Rattle.records.specs.Sizes.{most_octets}

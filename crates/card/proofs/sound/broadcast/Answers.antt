@@ -1,5 +1,4 @@
 -- `broadcast` compares the address with six zeros.
-use borrow.Author.Rules.{rules}
 use Rattle.frame.specs.Addresses.{broadcast}
 use Rattle.card.proofs.sound.broadcast.Goals as goal
 

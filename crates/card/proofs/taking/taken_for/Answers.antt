@@ -1,5 +1,4 @@
 -- `taken_for` compares the address, by the command.
-use borrow.Author.Rules.{rules}
 use borrow.Enum.Refused.{opened}
 use Rattle.card.specs.Taking.{taken_for}
 use Rattle.card.proofs.TakenFrames.{not_taken}

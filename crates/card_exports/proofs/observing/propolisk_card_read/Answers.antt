@@ -1,10 +1,8 @@
 -- Reading by TAB: 17, 12, 10, or the record's contents.
-use Prim.Native.Nat.{ℕ, ◌<◌}
+use Prim.Native.Nat.{ℕ}
 use mathlib.Core.Path.{◌≡◌, sym, ap, ◌∙◌}
-use mathlib.Core.Bool.{true}
-use borrow.Author.Tests.{lt-leb, le-leb, not-true, not-false}
+use borrow.Author.Tests.{lt-leb, le-leb}
 use Rattle.numbers.specs.Answer.{Answer}
-use Rattle.records.specs.Sizes.{most_records}
 use Rattle.records.specs.Numbers.{answer_of_found}
 use Rattle.records.specs.Finding.{attributes_of, find}
 use mathlib.Core.List.{List}
@@ -12,12 +10,10 @@ use Rattle.records.specs.declared.Found.{Found}
 use Rattle.card.specs.declared.Card.{Card}
 use Rattle.card.specs.Soundness.{sound}
 use Rattle.card_memory.specs.Decoding.{decoded}
-use Rattle.card_exports.specs.Outcome.{sound_memory}
 use Rattle.card_exports.specs.Observing.{shown_for, read_outcome}
 use Rattle.card_exports.proofs.Calls.{illegible_unsound, legible-sound}
 use Rattle.card_exports.proofs.Finding.{found_inside}
 use native.Mathlib.Omega.{arith}
-use borrow.Author.Rules.{rules}
 use Rattle.card_exports.proofs.observing.propolisk_card_read.Goals as goal
 
 -- a card that was read from the memory answers for what is in it

@@ -1,10 +1,8 @@
 -- `show` puts as many octets as the record states, and no more than it has.
 use mathlib.Core.Path.{sym}
-use lib.ListN.{length}
 use lib.Seq.{length-take-le, take_all}
 use Rattle.records.proofs.Shape.{storage_length}
 use native.Mathlib.Omega.{arith}
-use borrow.Author.Rules.{rules}
 use Rattle.card_exports.proofs.observing.show.Goals as goal
 
 pub slice_bounds-storage-end : goal.slice_bounds-storage-end

@@ -1,6 +1,5 @@
 -- `judge` by its tests.
 use borrow.Author.Tests.{eq-eqb, ne_eqb}
-use borrow.Author.Rules.{rules}
 use Rattle.card_exports.proofs.setup.judge.Goals as goal
 
 pub returns-then-number-eq-WRONG_LENGTH : goal.returns-then-number-eq-WRONG_LENGTH

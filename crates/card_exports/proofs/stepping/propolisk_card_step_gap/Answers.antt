@@ -1,10 +1,8 @@
 -- The call on whole, legible memory is the method by value between decoding and encoding.
 use mathlib.Core.Path.{refl, sym, ap, ◌∙◌}
-use borrow.Author.Tests.{not-true, not-false}
 use Rattle.card.specs.declared.Card.{Card}
 use Rattle.card.specs.Events.{gap, after}
 use Rattle.card_exports.proofs.Calls.{too_short, illegible_called, call_finished}
-use borrow.Author.Rules.{rules}
 use Rattle.card_exports.proofs.stepping.propolisk_card_step_gap.Goals as goal
 
 pub returns-then-memory-lt-SIZE : goal.returns-then-memory-lt-SIZE

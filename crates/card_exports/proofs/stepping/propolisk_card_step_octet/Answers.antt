@@ -1,10 +1,8 @@
 -- The octet call: 17, 12, then the method by value between decoding and encoding.
 use mathlib.Core.Path.{sym, ◌∙◌}
-use borrow.Author.Tests.{not-true, not-false}
 use Rattle.card_exports.specs.Outcome.{octet_outcome}
 use Rattle.card_exports.proofs.Calls.{illegible_unsound}
 use Rattle.card_exports.proofs.OctetCall.{octet_broken, octet_replied}
-use borrow.Author.Rules.{rules}
 use Rattle.card_exports.proofs.stepping.propolisk_card_step_octet.Goals as goal
 
 pub returns-then-not-lengths_fit : goal.returns-then-not-lengths_fit

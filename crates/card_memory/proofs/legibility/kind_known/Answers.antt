@@ -1,5 +1,4 @@
 -- `kind_known` tests the kind's octet.
-use borrow.Author.Rules.{rules}
 use Rattle.card_memory.proofs.legibility.kind_known.Goals as goal
 
 pub returns : goal.returns

@@ -1,8 +1,6 @@
 -- `legible` tests the state marks, then the kinds.
 use mathlib.Core.Path.{sym, ◌∙◌}
-use borrow.Author.Tests.{not-true, not-false}
 use Rattle.card_memory.specs.Legibility.{legible}
-use borrow.Author.Rules.{rules}
 use Rattle.card_memory.proofs.legibility.legible.Goals as goal
 
 pub returns-then-not-marks_in_use : goal.returns-then-not-marks_in_use

@@ -1,7 +1,6 @@
 -- `marks_in_use` tests the wait's mark, then the receiver's.
 use borrow.Author.Tests.{lt-leb, le-leb}
 use Rattle.card_memory.specs.Legibility.{marks_in_use}
-use borrow.Author.Rules.{rules}
 use Rattle.card_memory.proofs.legibility.marks_in_use.Goals as goal
 
 pub returns-then-octet-gt1 : goal.returns-then-octet-gt1

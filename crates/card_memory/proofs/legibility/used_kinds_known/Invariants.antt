@@ -1,12 +1,8 @@
 -- `used_kinds_known` looks at one record after the other.
 use Prim.Native.Nat.{◌+◌, ◌*◌, ◌≤◌}
-use mathlib.Core.Path.{◌≡◌, sym, ◌∙◌}
-use borrow.Author.Tests.{not-true, not-false}
+use mathlib.Core.Path.{◌≡◌}
 use Rattle.card_memory.specs.Layout.{record_size, size}
 use Rattle.card_memory.specs.Legibility.{kinds_known, used_kinds_known}
-use Rattle.card_memory.proofs.KindRuns.{kinds_next, kinds_out}
-use borrow.Author.Rules.{rules}
-use native.Mathlib.Omega.{arith}
 use Rattle.card_memory.proofs.legibility.used_kinds_known.Given as goal
 
 abbrev pub invariant-loop-left : goal.invariant-loop-left

@@ -1,6 +1,5 @@
 -- `decode` reads each field at its place.
 use Rattle.card_memory.specs.Decoding.{decoded}
-use borrow.Author.Rules.{rules}
 use Rattle.card_memory.proofs.reading.decode.Goals as goal
 
 pub returns : goal.returns

@@ -1,6 +1,5 @@
 -- `exchange_in` reads the phase, DATA and NA2.
 use Rattle.receiver_memory.specs.Fields.{field_at}
-use borrow.Author.Rules.{rules}
 use Rattle.card_memory.proofs.reading.exchange_in.Goals as goal
 
 pub returns : goal.returns

@@ -1,6 +1,5 @@
 -- `identity_in` reads the address and the key.
 use Rattle.receiver_memory.specs.Fields.{field_at}
-use borrow.Author.Rules.{rules}
 use Rattle.card_memory.proofs.reading.identity_in.Goals as goal
 
 pub returns : goal.returns

@@ -1,7 +1,6 @@
 -- `phase_in` goes by the mark of the wait.
 use borrow.Author.Tests.{eq-eqb, ne_eqb}
 use Rattle.card_memory.specs.Decoding.{phase_in}
-use borrow.Author.Rules.{rules}
 use Rattle.card_memory.proofs.reading.phase_in.Goals as goal
 
 pub returns-then-octet-eq1 : goal.returns-then-octet-eq1

@@ -1,11 +1,11 @@
 -- `places_in` fills an array: after i turns it has the first i records.
-use Prim.Native.Nat.{◌+◌, ◌-◌, ◌*◌, ◌≤◌, ◌<◌}
+use Prim.Native.Nat.{◌<◌}
 use mathlib.Core.Path.{◌≡◌, sym, ap, ◌∙◌}
-use mathlib.Core.List.{◌++◌, append-nil}
-use lib.ListN.{length, take, drop, get_or}
+use mathlib.Core.List.{append-nil}
+use lib.ListN.{get_or}
 use lib.Seq.{take_all}
 use Rattle.records.specs.Finding.{blank}
-use Rattle.card_memory.specs.Layout.{records_at, record_size, record_places}
+use Rattle.card_memory.specs.Layout.{record_places}
 use Rattle.card_memory.specs.Decoding.{record_in, records_in}
 use Rattle.card_memory.proofs.RecordRuns.{fill_next, length_records, record_at_lem}
 use borrow.Author.Rules.{rules}

@@ -1,15 +1,10 @@
 -- `places_in` fills an array: after i turns it has the first i records.
-use Prim.Native.Nat.{◌+◌, ◌-◌, ◌*◌, ◌≤◌, ◌<◌}
-use mathlib.Core.Path.{◌≡◌, sym, ap, ◌∙◌}
-use mathlib.Core.List.{◌++◌, append-nil}
-use lib.ListN.{length, take, drop, get_or}
-use lib.Seq.{take_all}
-use Rattle.records.specs.Finding.{blank}
+use Prim.Native.Nat.{◌+◌, ◌-◌, ◌*◌, ◌≤◌}
+use mathlib.Core.Path.{◌≡◌}
+use mathlib.Core.List.{◌++◌}
+use lib.ListN.{length, take, drop}
 use Rattle.card_memory.specs.Layout.{records_at, record_size, record_places}
-use Rattle.card_memory.specs.Decoding.{record_in, records_in}
-use Rattle.card_memory.proofs.RecordRuns.{fill_next, length_records, record_at_lem}
-use borrow.Author.Rules.{rules}
-use native.Mathlib.Omega.{arith}
+use Rattle.card_memory.specs.Decoding.{records_in}
 use Rattle.card_memory.proofs.reading.places_in.Given as goal
 
 abbrev pub invariant-loop-i : goal.invariant-loop-i

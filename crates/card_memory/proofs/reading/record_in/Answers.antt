@@ -1,7 +1,6 @@
 -- `record_in` reads attributes, length and storage.
 use Rattle.receiver_memory.specs.Fields.{field_at}
 use Rattle.card_memory.specs.Decoding.{record_in}
-use borrow.Author.Rules.{rules}
 use Rattle.card_memory.proofs.reading.record_in.Goals as goal
 
 pub returns : goal.returns

@@ -1,5 +1,4 @@
 -- `records_in` reads the places beside the count.
-use borrow.Author.Rules.{rules}
 use Rattle.card_memory.proofs.reading.records_in.Goals as goal
 
 pub returns : goal.returns

@@ -1,5 +1,4 @@
 -- `entries` reads the records from the first entry on.
-use borrow.Author.Rules.{rules}
 use Rattle.card_memory.proofs.setup.entries.Goals as goal
 
 pub returns : goal.returns

@@ -1,7 +1,6 @@
 -- `set_up` puts the fields one after the other.
 use Rattle.card_memory.specs.Setup.{set_up}
 use Rattle.receiver_memory.specs.Puts.{put_all}
-use borrow.Author.Rules.{rules}
 use Rattle.card_memory.proofs.setup.set_up.Goals as goal
 
 pub returns : goal.returns

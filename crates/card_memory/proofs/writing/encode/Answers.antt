@@ -1,7 +1,6 @@
 -- `encode` puts the exchange, the records' contents and the receiver one after the other.
 use mathlib.Core.Path.{sym}
 use Rattle.card_memory.proofs.Turns.{encoded_in_turn}
-use borrow.Author.Rules.{rules}
 use Rattle.card_memory.proofs.writing.encode.Goals as goal
 
 pub returns : goal.returns

@@ -1,13 +1,10 @@
 -- `put_all_contents` puts one record's contents after the other: what is left to put makes the whole.
-use Rattle.card_memory.proofs.ContentsRuns.{contents_next, contents_end}
-use Prim.Native.Nat.{◌+◌, ◌-◌, ◌*◌, ◌≤◌, ◌<◌}
-use mathlib.Core.Path.{◌≡◌, refl, sym, ◌∙◌}
+use Prim.Native.Nat.{◌+◌, ◌-◌, ◌*◌, ◌≤◌}
+use mathlib.Core.Path.{◌≡◌}
 use lib.ListN.{length, drop}
 use Rattle.receiver_memory.specs.Puts.{put_all}
 use Rattle.card_memory.specs.Layout.{records_at, record_size, record_places}
 use Rattle.card_memory.specs.Encoding.{contents_puts}
-use borrow.Author.Rules.{rules}
-use native.Mathlib.Omega.{arith}
 use Rattle.card_memory.proofs.writing.put_all_contents.Given as goal
 
 abbrev pub invariant-loop-i : goal.invariant-loop-i

@@ -7,7 +7,6 @@ use Rattle.receiver_memory.specs.Fields.{narrowed}
 use Rattle.card_memory.specs.Layout.{storage_size}
 use Rattle.card_memory.specs.Encoding.{contents_image}
 use Rattle.receiver_memory.proofs.Images.{after_front}
-use borrow.Author.Rules.{rules}
 use Rattle.card_memory.proofs.writing.put_contents.Goals as goal
 
 pub returns : goal.returns

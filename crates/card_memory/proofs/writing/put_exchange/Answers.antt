@@ -1,6 +1,5 @@
 -- `put_exchange` puts the phase, DATA and NA2 one after the other.
 use Rattle.receiver_memory.specs.Puts.{put_all}
-use borrow.Author.Rules.{rules}
 use Rattle.card_memory.proofs.writing.put_exchange.Goals as goal
 
 pub returns : goal.returns

@@ -1,5 +1,4 @@
 -- `put_phase` by the phase.
-use borrow.Author.Rules.{rules}
 use Rattle.card_memory.proofs.writing.put_phase.Goals as goal
 
 pub returns-in-Idle : goal.returns-in-Idle

@@ -1,5 +1,4 @@
 -- `acceptable` runs the tests of `acceptable` in its order.
-use borrow.Author.Rules.{rules}
 use Rattle.records.specs.Judging.{acceptable}
 use Rattle.records.proofs.Attributes.acceptable.Goals as goal
 

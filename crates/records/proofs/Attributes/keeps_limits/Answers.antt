@@ -1,5 +1,4 @@
 -- `keeps_limits` tests the octet limit and then the character limit, as its definition does.
-use borrow.Author.Rules.{rules}
 use borrow.Author.Tests.{lt-leb, le-leb}
 use Rattle.records.proofs.Attributes.keeps_limits.Goals as goal
 

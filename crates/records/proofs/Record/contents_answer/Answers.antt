@@ -5,7 +5,6 @@ use mathlib.Core.Path.{◌≡◌, sym, ◌∙◌}
 use native.Mathlib.Omega.{arith}
 use lib.ListN.{length}
 use lib.Seq.{length-take-le}
-use borrow.Author.Rules.{rules}
 use Rattle.records.specs.Judging.{contents_answer, over_long}
 use Rattle.records.proofs.Limits.{within_storage}
 use Rattle.records.proofs.Shape.{storage_length}

@@ -2,7 +2,6 @@
 use Prim.Native.Nat.{◌≤◌}
 use native.Mathlib.Omega.{arith}
 use lib.ListN.{length}
-use borrow.Author.Rules.{rules}
 use Rattle.octets.proofs.Splice.{spliced_front}
 use Rattle.records.proofs.Shape.{storage_length}
 use Rattle.records.proofs.Record.hold.Goals as goal

@@ -1,13 +1,8 @@
 -- `all_keep_limits`: the test of the rest is the test of the whole.
-use Prim.Native.Nat.{◌≤◌, ◌-◌}
-use mathlib.Core.Path.{◌≡◌, refl, sym, ◌∙◌}
+use mathlib.Core.Path.{refl, sym, ◌∙◌}
 use native.Mathlib.Numerals.{add-one}
 use native.Mathlib.Omega.{arith}
-use lib.ListN.{length, drop}
 use borrow.Author.Rules.{rules}
-use borrow.Author.Tests.{not-true, not-false}
-use Rattle.records.specs.Finding.{used, attributes_of}
-use Rattle.records.specs.Setup.{all_keep_limits}
 use Rattle.records.proofs.Shape.{in_use_length}
 use Rattle.records.proofs.Walks.{limits_pass, limits_stop, limits_end}
 use Rattle.records.proofs.Records.all_keep_limits.Goals as goal

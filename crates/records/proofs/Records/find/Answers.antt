@@ -1,12 +1,12 @@
 -- `find`: the index in the whole list is what was passed and the index in the rest.
-use Prim.Native.Nat.{◌≤◌, ◌<◌, ◌-◌, ◌+◌}
-use mathlib.Core.Path.{◌≡◌, sym}
+use Prim.Native.Nat.{◌<◌}
+use mathlib.Core.Path.{sym}
 use native.Mathlib.Nat.{zero-add}
 use native.Mathlib.Numerals.{add-one}
 use native.Mathlib.Omega.{arith}
-use lib.ListN.{length, drop}
+use lib.ListN.{length}
 use borrow.Author.Rules.{rules}
-use Rattle.records.specs.Finding.{used, attributes_of, index_of}
+use Rattle.records.specs.Finding.{used, attributes_of}
 use Rattle.records.proofs.InUse.{attributes_length}
 use Rattle.records.proofs.Places.{index_hit, index_miss, found_at, found_none}
 use Rattle.records.proofs.Shape.{in_use_length}

@@ -1,15 +1,8 @@
 -- `find`: the index in the whole list is what was passed and the index in the rest.
-use Prim.Native.Nat.{◌≤◌, ◌<◌, ◌-◌, ◌+◌}
-use mathlib.Core.Path.{◌≡◌, sym}
-use native.Mathlib.Nat.{zero-add}
-use native.Mathlib.Numerals.{add-one}
-use native.Mathlib.Omega.{arith}
+use Prim.Native.Nat.{◌≤◌, ◌-◌, ◌+◌}
+use mathlib.Core.Path.{◌≡◌}
 use lib.ListN.{length, drop}
-use borrow.Author.Rules.{rules}
 use Rattle.records.specs.Finding.{used, attributes_of, index_of}
-use Rattle.records.proofs.InUse.{attributes_length}
-use Rattle.records.proofs.Places.{index_hit, index_miss, found_at, found_none}
-use Rattle.records.proofs.Shape.{in_use_length}
 use Rattle.records.proofs.Records.find.Given as goal
 
 abbrev pub invariant-loop-i : goal.invariant-loop-i

@@ -2,7 +2,6 @@
 use Prim.Native.Nat.{ℕ, ◌<◌}
 use mathlib.Core.Path.{◌≡◌, sym, ap, ◌∙◌}
 use borrow.Author.Rules.{rules}
-use borrow.Author.Tests.{not-true, not-false}
 use Rattle.numbers.specs.Answer.{given, when_given}
 use Rattle.records.specs.Sizes.{most_records}
 use Rattle.records.specs.Numbers.{answer_of_found}

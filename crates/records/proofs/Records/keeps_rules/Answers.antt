@@ -1,6 +1,5 @@
 -- `keeps_rules` runs the tests of `keeps_rules` in its order.
-use borrow.Author.Rules.{rules}
-use borrow.Author.Tests.{lt-leb, le-leb, not-true, not-false}
+use borrow.Author.Tests.{lt-leb, le-leb}
 use Rattle.records.specs.Setup.{keeps_rules}
 use Rattle.records.proofs.Records.keeps_rules.Goals as goal
 

@@ -1,8 +1,7 @@
 -- `sound` tests the rules and then the contents.
 use mathlib.Core.Path.{◌≡◌}
 use native.Mathlib.Omega.{arith}
-use borrow.Author.Rules.{rules}
-use borrow.Author.Tests.{not-true, not-false, ne_eqb}
+use borrow.Author.Tests.{ne_eqb}
 use Rattle.numbers.specs.Table.{none}
 use Rattle.records.specs.Numbers.{refusal_number}
 use Rattle.records.specs.Setup.{sound}

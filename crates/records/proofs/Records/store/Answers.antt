@@ -1,5 +1,4 @@
 -- `store` replaces one record.
-use borrow.Author.Rules.{rules}
 use Rattle.records.proofs.Records.store.Goals as goal
 
 pub returns : goal.returns

@@ -1,15 +1,9 @@
 -- `tabs_apart`: the marks are those of the TABs passed, which stand apart.
-use Prim.Native.Nat.{◌≤◌}
-use mathlib.Core.Bool.{true}
 use mathlib.Core.Path.{◌≡◌, refl, sym, ◌∙◌}
 use native.Mathlib.Omega.{arith}
-use lib.ListN.{length-set, length, drop}
-use borrow.Author.Rules.{rules}
-use Rattle.records.specs.Sizes.{most_records}
-use Rattle.records.specs.Finding.{used, attributes_of}
-use Rattle.records.specs.Setup.{tabs_apart}
+use lib.ListN.{length-set}
 use Rattle.records.proofs.Shape.{in_use_length}
-use Rattle.records.proofs.Walks.{Marked, apart_end, marks_none, seen_stop, seen_pass, seen_next}
+use Rattle.records.proofs.Walks.{apart_end, marks_none, seen_stop, seen_pass, seen_next}
 use Rattle.records.proofs.Records.tabs_apart.Goals as goal
 
 pub loop-i-init : goal.loop-i-init

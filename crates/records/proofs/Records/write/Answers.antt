@@ -1,6 +1,5 @@
 -- `write` stores what `grant` grants, and answers what it found.
 use mathlib.Core.Path.{refl, sym, ap, ◌∙◌}
-use borrow.Author.Rules.{rules}
 use Rattle.records.specs.Numbers.{answer_of_found}
 use Rattle.records.specs.Finding.{attributes_of}
 use Rattle.records.specs.Writing.{store_when}

@@ -1,5 +1,4 @@
 -- `text_answer` goes by the cases of its definition.
-use borrow.Author.Rules.{rules}
 use borrow.Author.Tests.{lt-ltb, le-ltb}
 use Rattle.records.proofs.judging.text_answer.Goals as goal
 
