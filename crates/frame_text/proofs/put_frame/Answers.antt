@@ -5,7 +5,6 @@ use Rattle.frame.proofs.GoodFrame.{inspected_good}
 use Rattle.frame_text.proofs.Lengths.{data_of_most}
 use Rattle.frame_text.proofs.Outcomes.{no_room, no_frame, good_frame}
 use native.Mathlib.Omega.{arith}
-use borrow.Author.Rules.{rules}
 use Rattle.frame_text.proofs.put_frame.Goals as goal
 
 pub returns-then-buffer-lt-MOST_WORDS : goal.returns-then-buffer-lt-MOST_WORDS

@@ -7,7 +7,6 @@ use Rattle.frame.proofs.Shape.{shaped}
 use Rattle.frame_text.specs.Words.{head_words}
 use Rattle.frame_text.proofs.Lengths.{name_most}
 use native.Mathlib.Omega.{arith}
-use borrow.Author.Rules.{rules}
 use Rattle.frame_text.proofs.put_head.Goals as goal
 
 pub returns : goal.returns

@@ -1,12 +1,10 @@
 -- `put_name` meets its contract: the part of the table at the command's code is its name.
 use Prim.Native.Nat.{◌+◌, ◌*◌}
 use mathlib.Core.Path.{◌≡◌, sym, ◌∙◌}
-use mathlib.Core.Logic.{⊎_elim}
 use Rattle.octets.specs.Part.{part_of}
 use Rattle.frame_text.specs.Names.{name_of}
 use Rattle.frame_text.proofs.NameTable.{names, name_of_three, name_of_two}
 use native.Mathlib.Omega.{arith}
-use borrow.Author.Rules.{rules}
 use Rattle.frame_text.proofs.put_name.Goals.{then-code-eq9, else-code-eq9}
 use Rattle.frame_text.proofs.put_name.Goals as goal
 
@@ -21,7 +19,7 @@ returns c = let k = c.code-code in
     let command = c.args.command in
     let name : part_of names (3 * k.result) (3 * k.result + l.letters) ≡ name_of command =
     elim l.branch [
-      then-code-eq9 w ↦ rw (w.letters-is, k.ensures) (name_of_two command (sym k.ensures ∙ w.if-code-eq9.true))
+      | then-code-eq9 w ↦ rw (w.letters-is, k.ensures) (name_of_two command (sym k.ensures ∙ w.if-code-eq9.true))
       | else-code-eq9 w ↦ rw (w.letters-is, k.ensures) (name_of_three command (λ e. w.if-code-eq9.false (k.ensures ∙ e)))
     ] in
     rw (← (c.part.ensures ∙ name)) c.put_words.ensures

@@ -7,7 +7,6 @@ use Rattle.frame.proofs.Shape.{shaped}
 use Rattle.frame_text.specs.Words.{items_of, items_words, head_words, words_of}
 use Rattle.frame_text.proofs.Lengths.{head_most, items_most, items_long}
 use native.Mathlib.Omega.{arith}
-use borrow.Author.Rules.{rules}
 use Rattle.frame_text.proofs.put_whole.Goals as goal
 
 pub put_items-requires : goal.put_items-requires

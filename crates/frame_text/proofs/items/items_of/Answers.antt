@@ -1,6 +1,5 @@
 -- `items_of` meets its contract: arm by arm, the row of the command.
 use Rattle.frame_text.specs.Words.{items_of}
-use borrow.Author.Rules.{rules}
 use Rattle.frame_text.proofs.items.items_of.Goals as goal
 
 pub returns-in-Enq : goal.returns-in-Enq

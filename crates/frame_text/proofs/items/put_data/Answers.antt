@@ -1,7 +1,6 @@
 -- `put_data` meets its contract: no octets, or some.
 use Rattle.frame_text.specs.Words.{data_words}
 use Rattle.frame_text.proofs.Lengths.{no_octets, some_octets}
-use borrow.Author.Rules.{rules}
 use Rattle.frame_text.proofs.items.put_data.Goals as goal
 
 pub returns-then-data-eq0 : goal.returns-then-data-eq0

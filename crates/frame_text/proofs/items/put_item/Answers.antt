@@ -1,7 +1,6 @@
 -- `put_item` meets its contract: arm by arm, the name and the octets of the field.
 use Rattle.frame_text.specs.Words.{item_words}
 use Rattle.frame_text.proofs.Lengths.{nothing_written}
-use borrow.Author.Rules.{rules}
 use Rattle.frame_text.proofs.items.put_item.Goals as goal
 
 pub returns-in-Nothing : goal.returns-in-Nothing

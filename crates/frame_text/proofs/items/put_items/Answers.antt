@@ -4,7 +4,6 @@ use Rattle.frame_text.specs.Words.{items_words}
 use Rattle.frame_text.proofs.Lengths.{item_most}
 use Rattle.frame_text.proofs.Lengths.{joined_four}
 use native.Mathlib.Omega.{arith}
-use borrow.Author.Rules.{rules}
 use Rattle.frame_text.proofs.items.put_items.Goals as goal
 
 pub returns : goal.returns
