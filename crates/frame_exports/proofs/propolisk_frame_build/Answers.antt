@@ -1,5 +1,4 @@
 -- `frame_exports::propolisk_frame_build` meets its contract: each way out is a case of `build_outcome`.
-use borrow.Author.Rules.{rules}
 use Rattle.frame_exports.proofs.Outcomes.{build_short, build_unknown, build_framed, build_refused}
 use Rattle.frame_exports.proofs.propolisk_frame_build.Goals as goal
 

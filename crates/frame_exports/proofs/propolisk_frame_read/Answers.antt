@@ -1,5 +1,4 @@
 -- `frame_exports::propolisk_frame_read` meets its contract: a refusal leaves all, and a good frame's fields are those that `frame::read` gives.
-use borrow.Author.Rules.{rules}
 use Rattle.frame_exports.proofs.Outcomes.{read_bad, read_good}
 use Rattle.frame_exports.proofs.propolisk_frame_read.Goals as goal
 
