@@ -1,4 +1,5 @@
 -- `phase_of` goes by the mark.
+use native.Mathlib.Omega.{arith}
 use borrow.Author.Tests.{ne_eqb}
 use Rattle.tool_memory.specs.Marks.{phase_of}
 use Rattle.tool_memory.proofs.marks.phase_of.Goals as goal
@@ -29,5 +30,5 @@ returns-in-5 c = rw c.in-5.is
 
 pub returns-in_default : goal.returns-in_default
 unfolding phase_of
-returns-in_default c = let r = c.in_default.in_default-own.rest in
-    rw (ne_eqb _ 0 r.0.0.0.0.0.1, ne_eqb _ 1 r.0.0.0.0.1, ne_eqb _ 2 r.0.0.0.1, ne_eqb _ 3 r.0.0.1, ne_eqb _ 4 r.0.1, ne_eqb _ 5 r.1) c.unused.ensures
+returns-in_default c = let m = c.args.mark in
+    rw (ne_eqb m 0 (omega arith), ne_eqb m 1 (omega arith), ne_eqb m 2 (omega arith), ne_eqb m 3 (omega arith), ne_eqb m 4 (omega arith), ne_eqb m 5 (omega arith)) c.unused.ensures
