@@ -1,0 +1,6 @@
+-- `keys::alike` meets its contract.
+-- Assumes nothing.
+use Rattle.des.proofs.keys.alike.Goals as goal
+
+pub returns : goal.returns
+returns c = rw (c.equal.ensures, c.without_parity-2.ensures, c.without_parity.ensures)

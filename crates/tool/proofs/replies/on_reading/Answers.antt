@@ -1,0 +1,23 @@
+-- `on_reading` goes by the replies to ENQ.
+use Rattle.tool.proofs.replies.on_reading.Goals as goal
+
+pub returns-else-asked : goal.returns-else-asked
+returns-else-asked c = rw (c.in-Dat.is, c.if-asked.false)
+
+pub returns-in-Ech : goal.returns-in-Ech
+returns-in-Ech c = rw c.in-Ech.is
+
+pub returns-in-Eos : goal.returns-in-Eos
+returns-in-Eos c = rw c.in-Eos.is
+
+pub returns-in-Drj : goal.returns-in-Drj
+returns-in-Drj c = rw c.in-Drj.is
+
+pub returns-in-Arj : goal.returns-in-Arj
+returns-in-Arj c = rw c.in-Arj.is
+
+pub returns-in-Tra : goal.returns-in-Tra
+returns-in-Tra c = rw c.in-Tra.is
+
+pub returns-in-Other : goal.returns-in-Other
+returns-in-Other c = rw c.in-Other.is
