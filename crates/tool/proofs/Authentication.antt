@@ -4,7 +4,6 @@ use mathlib.Core.Path.{◌≡◌, sym, ap, ◌∙◌}
 use mathlib.Core.Bool.{true, false}
 use mathlib.Core.List.{List, []}
 use mathlib.Core.Logic.{◌⊎◌, inl, inr}
-use Rattle.octets.specs.Part.{same}
 use Rattle.octets.proofs.Impossible.{impossible}
 use Rattle.des.specs.Des.{encipher}
 use Rattle.frame.specs.declared.codes.Command.{Command}
@@ -15,7 +14,6 @@ use Rattle.receiver.specs.Receiving.{Reception, complete_outcome, on_octet}
 use Rattle.receiver.specs.Receiver.{reception_of}
 use Rattle.wake.specs.declared.Wake.TheVariants.{None}
 use Rattle.tool.specs.declared.Tool.{Tool}
-use Rattle.tool.specs.declared.replies.Reply.TheVariants.{Ech}
 use Rattle.tool.specs.Parts.{fresh, Response}
 use Rattle.tool.specs.Requests.{Asking, zero_number, fields_to}
 use Rattle.tool.specs.Replies.{authentication}

@@ -8,7 +8,7 @@ use lib.Dec.{eqb}
 use borrow.Author.Tests.{eqb-true}
 use Rattle.octets.proofs.Impossible.{impossible}
 use Rattle.frame.proofs.BadFrame.{OfBadFrame}
-use Rattle.tool.specs.Leaving.{Effect, keeps_all, receiver_only, all_over, one_of, bad_frames, endings, effect_of, unmade}
+use Rattle.tool.specs.Leaving.{keeps_all, receiver_only, all_over, one_of, bad_frames, endings, effect_of, unmade}
 
 -- a number of a list has what all numbers of the list have
 abbrev All : (ℕ → Type 0) → List ℕ → Type 0

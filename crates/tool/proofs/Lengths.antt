@@ -1,7 +1,6 @@
 -- What owning a tool tells of its arrays.
 use mathlib.Core.Path.{◌≡◌}
 use mathlib.Core.List.{List}
-use Prim.Native.Nat.{ℕ}
 use lib.ListN.{length}
 use mir.Val.{Val}
 use denote.Shadow.{shadow}

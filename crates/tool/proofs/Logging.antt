@@ -30,7 +30,7 @@ use Rattle.tool.specs.Parts.{idle, last_of, fresh, in_phase, with_waking, ended,
 use Rattle.tool.specs.Requests.{Asking, running, progress_of}
 use Rattle.tool.specs.Replies.{authenticating}
 use Rattle.tool.specs.Events.{Call, ask, octet_call, gap, session_end, after}
-use Rattle.tool.specs.Leaving.{endings, unmade}
+use Rattle.tool.specs.Leaving.{unmade}
 use Rattle.tool.specs.Log.{Report, report_of, Log, fresh_log, asking_logged, ending_noted, event_logged, logged, left_after, log_after}
 use Rattle.tool.specs.Claims.{Latest, Marked}
 use Rattle.tool.proofs.Effects.{in_endings, receiver_only_lem, over_made}

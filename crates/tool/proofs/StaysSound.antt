@@ -1,14 +1,14 @@
 -- A tool that a call gives back stays sound, so no call refuses it with 12.
-use Prim.Native.Nat.{ℕ, ◌≤◌}
+use Prim.Native.Nat.{◌≤◌}
 use mathlib.Core.Path.{◌≡◌, refl, sym, ap, ◌∙◌}
 use mathlib.Core.Bool.{true, false}
 use mathlib.Core.List.{List, [], ◌∷◌}
 use lib.Dec.{lit≤}
 use lib.ListN.{length}
 use Rattle.octets.proofs.Impossible.{impossible}
-use Rattle.numbers.specs.Answer.{refused, number_of}
+use Rattle.numbers.specs.Answer.{number_of}
 use Rattle.numbers.specs.Table.{broken_rule}
-use Rattle.receiver.specs.Receiver.{most_held, reception_of, holding}
+use Rattle.receiver.specs.Receiver.{most_held, reception_of}
 use Rattle.receiver.proofs.Soundness.{SoundReception, fresh-sound, reception_sound, holding-sound, holding_long, holding_reception}
 use Rattle.receiver.proofs.Follows.{Keeps, octet_keeps, gap_keeps, session_end_keeps}
 use Rattle.wake.specs.declared.Request.{Request}

@@ -1,5 +1,5 @@
 -- What each call on a tool gives and leaves.
-use Rattle.std.specs.Prelude.{ℕ, cond, List, leb}
+use Rattle.std.specs.Prelude.{ℕ, cond, leb}
 use Rattle.numbers.specs.Table.{broken_rule, session_ended, wrong_length}
 use Rattle.frame.specs.Content.{fields_of, data_of}
 use Rattle.receiver.specs.Receiving.{Outcome, silent_outcome, dropped_outcome, complete_outcome, Step, on_octet, on_gap, on_session_end}

@@ -5,7 +5,7 @@ use Rattle.numbers.specs.Table as table
 use Rattle.numbers.specs.Answer.{number_of}
 use Rattle.receiver.specs.Receiving.{Reception, awaiting, on_octet, on_gap, on_session_end}
 use Rattle.wake.specs.declared.Wake.{Wake}
-use Rattle.wake.specs.Clauses.{Ending, running, well, with_number, Entry}
+use Rattle.wake.specs.Clauses.{running, well, with_number, Entry}
 use Rattle.wake.specs.Lists.{latest_ended}
 use Rattle.tool.specs.declared.Tool.{Tool}
 use Rattle.tool.specs.Answers.{is_done}

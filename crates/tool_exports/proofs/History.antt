@@ -2,7 +2,7 @@
 -- 12 is never given. So the claims on lists of calls hold of the exported calls' own results.
 use Prim.Native.Nat.{ℕ}
 use mathlib.Core.Path.{◌≡◌, refl, sym, ap, ◌∙◌}
-use mathlib.Core.Bool.{Bool, true, false, cond, ◌||◌, ◌&&◌}
+use mathlib.Core.Bool.{Bool, true, false, cond, ◌||◌}
 use mathlib.Core.List.{List, [], ◌∷◌, map}
 use mathlib.Core.Logic.{◌⊎◌, inl, inr}
 use native.Mathlib.Omega.{arith}
@@ -10,8 +10,7 @@ use lib.Dec.{eqb}
 use lib.ListN.{length}
 use borrow.Author.Tests.{eqb-true}
 use Rattle.octets.specs.Splice.{fronted}
-use Rattle.octets.proofs.Impossible.{impossible}
-use Rattle.numbers.specs.Answer.{Answer, given, refused, number_of}
+use Rattle.numbers.specs.Answer.{given, refused, number_of}
 use Rattle.numbers.specs.Table.{none, broken_rule, wrong_length}
 use Rattle.wake.specs.declared.Wake.{Wake}
 use Rattle.wake.specs.declared.Wake.TheVariants.{None, Agn}
@@ -36,7 +35,7 @@ use Rattle.tool_memory.proofs.Fresh.{fresh-decoded}
 use Rattle.tool_memory.proofs.ToolPuts.{encoded-length}
 use Rattle.tool_memory.proofs.RoundTrip.{decoded-encoded}
 use Rattle.tool_memory.proofs.Storable.{Storable, fresh_storable, after_storable}
-use Rattle.tool_exports.specs.Outcomes.{stored, cell_after, wake_mark, done_mark, RequestLoan, OctetLoan, OctetOutcome, request_shown, octet_shown, request_outcome, octet_outcome, event_outcome}
+use Rattle.tool_exports.specs.Outcomes.{stored, cell_after, wake_mark, RequestLoan, OctetLoan, request_shown, octet_shown, request_outcome, octet_outcome, event_outcome}
 use Rattle.tool_exports.specs.Lists.{Export, request, octet, gap, session_end, call_of, left, memory_of, wake_in, read, report_in, left_in, log_in}
 use Rattle.tool_exports.specs.Claims.{SendsNothing, SendsAut}
 use Rattle.tool_exports.proofs.Left.{memory_left}

@@ -4,9 +4,7 @@ use mathlib.Core.Path.{◌≡◌, refl, sym, ap, ◌∙◌}
 use mathlib.Core.Bool.{true, false}
 use mathlib.Core.List.{List, []}
 use native.Mathlib.Omega.{arith}
-use lib.Dec.{eqb}
 use lib.ListN.{length, get_or}
-use borrow.Author.Tests.{eqb-false}
 use Rattle.octets.specs.Splice.{fronted}
 use Rattle.octets.proofs.Impossible.{impossible}
 use Rattle.octets.proofs.Parts.{get_or_part}

@@ -3,16 +3,15 @@ use Prim.Native.Nat.{ℕ, ◌<◌}
 use mathlib.Core.Path.{◌≡◌, refl, sym, ap, ◌∙◌}
 use mathlib.Core.Bool.{Bool, true, false, cond, and-eq-true_iff}
 use mathlib.Core.List.{List}
-use lib.Dec.{eqb, leb}
+use lib.Dec.{leb}
 use lib.ListN.{length, get_or}
-use Rattle.octets.proofs.Impossible.{impossible}
-use Rattle.numbers.specs.Answer.{refused, number_of}
+use Rattle.numbers.specs.Answer.{refused}
 use Rattle.numbers.specs.Table.{broken_rule, wrong_length}
 use Rattle.tool.specs.declared.Tool.{Tool}
 use Rattle.frame.specs.Sizes.{longest_frame}
 use Rattle.tool.specs.Parts.{Response, refusing}
 use Rattle.tool.specs.Soundness.{sound}
-use Rattle.tool.specs.Requests.{Asking, lent_rightly, admission, unless_refused, after_asking}
+use Rattle.tool.specs.Requests.{lent_rightly, admission, unless_refused, after_asking}
 use Rattle.tool.specs.Events.{after_octet, after_gap, after_session_end, Call, ask, octet_call, gap, session_end, after}
 use Rattle.tool.specs.Leaving.{keeps_all, effect_of, left_as, unmade}
 use Rattle.tool.proofs.Refusals.{refusal_leaves}

@@ -1,6 +1,6 @@
 -- Memory that is sound for 12 holds a sound tool, and encoding the tool that it holds gives the memory back.
-use Prim.Native.Nat.{ℕ, ◌+◌, ◌≤◌, ◌<◌}
-use mathlib.Core.Path.{◌≡◌, refl, sym, ap, ◌∙◌}
+use Prim.Native.Nat.{ℕ, ◌≤◌, ◌<◌}
+use mathlib.Core.Path.{◌≡◌, refl, ap, ◌∙◌}
 use mathlib.Core.Bool.{Bool, true, false, cond, not, ◌&&◌, ◌||◌}
 use mathlib.Core.List.{List, [], ◌∷◌}
 use native.Mathlib.Omega.{arith}
@@ -8,13 +8,13 @@ use lib.Dec.{eqb, leb, lit≤}
 use lib.ListN.{length, get_or}
 use lib.Seq.{ext_get_or}
 use borrow.Author.Tests.{leb-true}
-use mathlib.Core.Logic.{inl, inr}
+use mathlib.Core.Logic.{inr}
 use Rattle.octets.specs.Part.{part_of}
 use Rattle.octets.proofs.Impossible.{impossible}
 use Rattle.octets.proofs.Parts.{length_part, get_or_part}
 use Rattle.receiver.specs.Receiver as receiver
 use Rattle.receiver_memory.specs.Receiver as receiver_memory
-use Rattle.receiver_memory.specs.Puts.{put, put_all}
+use Rattle.receiver_memory.specs.Puts.{put}
 use Rattle.receiver_memory.proofs.Fields.{length_field}
 use Rattle.receiver_memory.proofs.Puts.{Held, spared}
 use Rattle.receiver_memory.proofs.Receiver.{image-decoded}

@@ -1,10 +1,8 @@
 -- The layout and the marks by the numbers of docs/TOOL_MEMORY.md, by which a C program lends memory and looks into it.
-use Prim.Native.Nat.{ℕ}
-use mathlib.Core.List.{List, [], ◌∷◌, map}
+use mathlib.Core.List.{[], ◌∷◌, map}
 use mathlib.Core.Path.{◌≡◌, refl}
 use Rattle.numbers.specs.Counts.{in_octets}
 use Rattle.wake.specs.declared.Last.TheVariants.{EnqTrf, Other}
-use Rattle.tool.specs.declared.Phase.{Phase}
 use Rattle.tool.specs.declared.Phase.TheVariants.{Idle, Reading, Transferring, Programming, Authenticating}
 use Rattle.tool_memory.specs.Layout.{mark_at, tab_at, length_at, ads_at, adp_at, key_at, na1_at, sent_at, station_at, successes_at, receiver_mark_at, receiver_count_at, size}
 use Rattle.tool_memory.specs.Marks.{phase_of}

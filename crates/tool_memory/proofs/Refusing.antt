@@ -1,6 +1,6 @@
 -- 01, Numbers handed back: a refusal "may still change the receiver and the mark of the wait or request .., and nothing else": of a tool that differs from the one that
 -- the memory holds in its receiver, and in that no request runs, encoding alters the request's mark and the receiver's octets alone.
-use Prim.Native.Nat.{ℕ, ◌+◌, ◌≤◌, ◌<◌}
+use Prim.Native.Nat.{ℕ, ◌<◌}
 use mathlib.Core.Path.{◌≡◌, refl}
 use mathlib.Core.Bool.{true}
 use mathlib.Core.List.{List, [], ◌∷◌}

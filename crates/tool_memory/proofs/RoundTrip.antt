@@ -1,6 +1,6 @@
 -- Decoding an encoded tool gives the tool back.
 use Prim.Native.Nat.{ℕ, ◌+◌, ◌≤◌, ◌<◌}
-use mathlib.Core.Path.{◌≡◌, refl, sym, ◌∙◌}
+use mathlib.Core.Path.{◌≡◌, sym, ◌∙◌}
 use mathlib.Core.Bool.{true, cond}
 use mathlib.Core.List.{List, [], ◌∷◌}
 use native.Mathlib.Omega.{arith}
@@ -10,7 +10,7 @@ use Rattle.octets.specs.Part.{part_of}
 use Rattle.receiver_memory.specs.Fields.{field_at}
 use Rattle.receiver_memory.specs.Fields as fields
 use Rattle.receiver_memory.specs.Receiver as receiver_memory
-use Rattle.receiver_memory.specs.Puts.{Put, put}
+use Rattle.receiver_memory.specs.Puts.{put}
 use Rattle.receiver_memory.proofs.Fields.{field_part, mark_in_use}
 use Rattle.receiver_memory.proofs.Puts.{Among, here, later, field_is}
 use Rattle.receiver_memory.proofs.Receiver.{image-length, decoded-image}

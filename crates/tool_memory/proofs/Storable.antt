@@ -1,6 +1,6 @@
 -- A tool that memory can hold: sound, with arrays as long as their types say and a count that fits an octet. Every call gives such a tool back.
 use Prim.Native.Nat.{ℕ, ◌+◌, ◌≤◌, ◌<◌}
-use mathlib.Core.Path.{◌≡◌, refl, ap, ◌∙◌}
+use mathlib.Core.Path.{◌≡◌, ap, ◌∙◌}
 use mathlib.Core.Bool.{Bool, true, false, cond, ◌&&◌}
 use mathlib.Core.List.{List}
 use native.Mathlib.Omega.{arith}
@@ -19,11 +19,11 @@ use Rattle.wake.specs.Clauses.{enq_or_trf, most_exchanges}
 use Rattle.wake.specs.Rule as wake
 use Rattle.tool.specs.declared.Phase.{Phase}
 use Rattle.tool.specs.declared.Tool.{Tool}
-use Rattle.frame.specs.Sizes.{address_width, number_width, most_transferred}
+use Rattle.frame.specs.Sizes.{address_width}
 use Rattle.tool.specs.Parts.{last_of, fresh, in_phase, with_receiver, with_waking, Response}
-use Rattle.tool.specs.Requests.{Asking, limit_of, waiting, running, asked}
+use Rattle.tool.specs.Requests.{Asking, limit_of, waiting, running}
 use Rattle.tool.specs.Events.{Call, after}
-use Rattle.tool.proofs.Admission.{Lent, Admits}
+use Rattle.tool.proofs.Admission.{Lent}
 use Rattle.tool.proofs.Courses.{rule, moved, Course, stays, asks, passes, drops, ends, fails, echoes, course}
 use Rattle.tool.proofs.StaysSound.{Whole, fresh_whole, next_sound, moved_whole, after_whole}
 use Rattle.tool_memory.proofs.Shape.{Shaped, fresh_shaped}

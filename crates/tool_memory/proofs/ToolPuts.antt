@@ -1,11 +1,10 @@
 -- Encoding puts eleven runs of octets into the memory, one behind the other, over all of it.
 use Prim.Native.Nat.{ℕ, ◌+◌, ◌≤◌, ◌<◌}
-use mathlib.Core.Path.{◌≡◌, refl, sym, ◌∙◌}
+use mathlib.Core.Path.{◌≡◌, refl}
 use mathlib.Core.List.{List, [], ◌∷◌, ◌++◌}
 use native.Mathlib.Omega.{arith}
 use lib.ListN.{length, get_or}
 use Rattle.receiver_memory.specs.Fields.{field_at}
-use Rattle.receiver_memory.specs.Receiver as receiver_memory
 use Rattle.receiver_memory.specs.Puts.{Put, put, put_all}
 use Rattle.receiver_memory.proofs.Fields.{get_or_field, length_field}
 use Rattle.receiver_memory.proofs.Puts.{Held, Rising, Among, put_all-length, put_there}

@@ -1,5 +1,4 @@
 -- `Phase::within_rec` goes by the phases.
-use borrow.Author.Rules.{rules}
 use Rattle.tool.proofs.Phase.within_rec.Goals as goal
 
 pub returns-in-Idle : goal.returns-in-Idle

@@ -1,8 +1,7 @@
 -- `Tool::admission` runs its tests in the order 12, 16, 6, 21, 7.
-use borrow.Author.Tests.{le-leb, lt-leb, not-true, not-false}
+use borrow.Author.Tests.{le-leb, lt-leb}
 use mathlib.Core.Path.{sym, ◌∙◌}
 use Rattle.tool.specs.Requests.{admission}
-use borrow.Author.Rules.{rules}
 use Rattle.tool.proofs.Tool.admission.Goals as goal
 
 pub returns-then-not-sound : goal.returns-then-not-sound

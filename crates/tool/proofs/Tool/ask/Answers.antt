@@ -5,8 +5,7 @@ use Rattle.tool.specs.Requests.{admission, number_of_admission, sending, unless_
 use Rattle.tool.proofs.Answers.{refusal_is_number}
 use Rattle.tool.proofs.Admission.{lent, admits, arguments_lent}
 use Rattle.tool.proofs.Gives.{gives_alike, gives_nothing}
-use borrow.Author.Tests.{ne_eqb, not-true, not-false}
-use borrow.Author.Rules.{rules}
+use borrow.Author.Tests.{ne_eqb}
 use Rattle.tool.proofs.Tool.ask.Goals as goal
 
 pub returns-then-not-lent_rightly : goal.returns-then-not-lent_rightly

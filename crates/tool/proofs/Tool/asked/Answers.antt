@@ -1,5 +1,4 @@
 -- `Tool::asked` notes the request in the wake-up memory.
-use borrow.Author.Rules.{rules}
 use Rattle.tool.proofs.Tool.asked.Goals as goal
 
 pub returns : goal.returns

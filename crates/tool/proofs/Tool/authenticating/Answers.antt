@@ -4,7 +4,6 @@ use Rattle.tool.specs.Parts.{Told}
 use mathlib.Core.Path.{refl}
 use Rattle.octets.specs.Between.{between}
 use Rattle.frame.specs.Layout.{layout_of, within}
-use borrow.Author.Rules.{rules}
 use Rattle.tool.proofs.Tool.authenticating.Goals as goal
 
 pub send-sent-requires : goal.send-sent-requires

@@ -1,5 +1,4 @@
 -- `Tool::authentication` enciphers NA2.
-use borrow.Author.Rules.{rules}
 use Rattle.tool.proofs.Tool.authentication.Goals as goal
 
 pub returns : goal.returns

@@ -5,7 +5,6 @@ use mathlib.Core.Path.{sym}
 use native.Mathlib.Omega.{arith}
 use Rattle.tool.specs.Replies.{echoes}
 use borrow.Author.Tests.{eq-eqb, ne_eqb}
-use borrow.Author.Rules.{rules}
 use Rattle.tool.proofs.Tool.echoes.Goals as goal
 
 pub returns-then-fields-tab : goal.returns-then-fields-tab

@@ -1,6 +1,5 @@
 -- `Tool::enciphers` enciphers NA1 and compares.
 use Rattle.tool.specs.Replies.{enciphers}
-use borrow.Author.Rules.{rules}
 use Rattle.tool.proofs.Tool.enciphers.Goals as goal
 
 pub returns : goal.returns

@@ -1,5 +1,4 @@
 -- `Tool::ended` keeps which request was the last.
-use borrow.Author.Rules.{rules}
 use Rattle.tool.proofs.Tool.ended.Goals as goal
 
 pub returns : goal.returns

@@ -1,5 +1,4 @@
 -- `Tool::ended_well` counts the success.
-use borrow.Author.Rules.{rules}
 use Rattle.tool.proofs.Tool.ended_well.Goals as goal
 
 pub returns : goal.returns

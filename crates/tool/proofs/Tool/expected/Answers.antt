@@ -1,8 +1,6 @@
 -- `Tool::expected` compares ADS and then ADP.
 use Rattle.tool.specs.Replies.{expected}
-use borrow.Author.Tests.{not-true, not-false}
 use mathlib.Core.Path.{sym, ◌∙◌}
-use borrow.Author.Rules.{rules}
 use Rattle.tool.proofs.Tool.expected.Goals as goal
 
 pub returns-then-not-equal : goal.returns-then-not-equal

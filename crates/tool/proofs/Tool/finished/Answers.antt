@@ -1,5 +1,4 @@
 -- `Tool::finished` ends the request without a number.
-use borrow.Author.Rules.{rules}
 use Rattle.tool.proofs.Tool.finished.Goals as goal
 
 pub returns : goal.returns

@@ -11,10 +11,8 @@ use Rattle.numbers.specs.Answer as answer
 use Rattle.receiver.proofs.Follows.{Follows, gap_follows}
 use Rattle.receiver.specs.Receiver.{Response, answer_of_event, answer_of_received, reception_of, stepped, after_gap as receiver_after_gap}
 use Rattle.receiver.specs.Receiving.{on_gap}
-use borrow.Author.Tests.{not-true, not-false}
 use mathlib.Core.Bool.{true}
 use mathlib.Core.Path.{◌≡◌, sym, ap, ◌∙◌}
-use borrow.Author.Rules.{rules}
 use Rattle.tool.proofs.Tool.gap.Goals.{After-gap-received, Else-not-sound}
 use Rattle.tool.proofs.Tool.gap.Goals as goal
 

@@ -6,7 +6,6 @@ use Rattle.receiver.proofs.Follows.{octet_follows}
 use Rattle.receiver.specs.Receiver.{Response, answer_of_event, answer_of_received, reception_of, stepped}
 use Rattle.receiver.specs.Receiving.{on_octet}
 use mathlib.Core.Path.{◌≡◌, sym, ap, ◌∙◌}
-use borrow.Author.Rules.{rules}
 use Rattle.tool.proofs.Tool.heard.Goals.{After-octet-received}
 use Rattle.tool.proofs.Tool.heard.Goals as goal
 

@@ -3,7 +3,6 @@ use native.Mathlib.Nat.{min-le_right}
 use lib.ListN.{get_or, length, length-take}
 use native.Mathlib.Omega.{arith}
 use Rattle.tool.proofs.Receiving.{good_data, stated_length}
-use borrow.Author.Rules.{rules}
 use Rattle.tool.proofs.Tool.heard_frame.Goals as goal
 
 pub slice_bounds-whole-end : goal.slice_bounds-whole-end

@@ -1,5 +1,4 @@
 -- `Tool::hearing` tells of no contents.
-use borrow.Author.Rules.{rules}
 use Rattle.tool.proofs.Tool.hearing.Goals as goal
 
 pub returns : goal.returns

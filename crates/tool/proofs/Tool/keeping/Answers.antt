@@ -1,5 +1,4 @@
 -- `Tool::keeping` stores what was lent.
-use borrow.Author.Rules.{rules}
 use Rattle.tool.proofs.Tool.keeping.Goals as goal
 
 pub returns : goal.returns

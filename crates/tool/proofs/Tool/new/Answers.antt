@@ -1,5 +1,4 @@
 -- `Tool::new` is a fresh tool.
-use borrow.Author.Rules.{rules}
 use Rattle.tool.proofs.Tool.new.Goals as goal
 
 pub returns : goal.returns

@@ -2,9 +2,8 @@
 use Rattle.tool.proofs.Sound.{test_sound}
 use Rattle.tool.proofs.Gives.{gives_nothing}
 use Rattle.tool.specs.Events.{after_octet}
-use borrow.Author.Tests.{le-leb, lt-leb, not-true, not-false}
+use borrow.Author.Tests.{le-leb, lt-leb}
 use mathlib.Core.Path.{sym, ◌∙◌}
-use borrow.Author.Rules.{rules}
 use Rattle.tool.proofs.Tool.octet.Goals as goal
 
 pub returns-then-frame-lt-LONGEST_FRAME : goal.returns-then-frame-lt-LONGEST_FRAME

@@ -1,8 +1,6 @@
 -- `Tool::on_echo` compares ZA1 first, then TAB and DATA.
-use borrow.Author.Tests.{not-true, not-false}
 use mathlib.Core.Path.{sym, ◌∙◌}
 use Rattle.tool.specs.Replies.{on_echo}
-use borrow.Author.Rules.{rules}
 use Rattle.tool.proofs.Tool.on_echo.Goals as goal
 
 pub returns-then-not-enciphers : goal.returns-then-not-enciphers

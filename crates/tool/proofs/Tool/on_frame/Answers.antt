@@ -1,9 +1,7 @@
 -- `Tool::on_frame` drops a frame that is not expected.
 use Rattle.tool.proofs.Gives.{gives_nothing}
-use borrow.Author.Tests.{not-true, not-false}
 use mathlib.Core.Path.{sym, ◌∙◌}
 use Rattle.tool.specs.Replies.{on_frame}
-use borrow.Author.Rules.{rules}
 use Rattle.tool.proofs.Tool.on_frame.Goals as goal
 
 pub returns-then-not-expected : goal.returns-then-not-expected

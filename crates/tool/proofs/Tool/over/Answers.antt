@@ -1,5 +1,4 @@
 -- `Tool::over` ends the request.
-use borrow.Author.Rules.{rules}
 use Rattle.tool.proofs.Tool.over.Goals as goal
 
 pub returns : goal.returns

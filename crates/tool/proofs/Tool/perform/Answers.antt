@@ -2,7 +2,6 @@
 use mathlib.Core.List.{[]}
 use Rattle.tool.proofs.Gives.{gives_nothing, Gives-finished}
 use Rattle.tool.specs.Replies.{performed}
-use borrow.Author.Rules.{rules}
 use Rattle.tool.proofs.Tool.perform.Goals as goal
 
 pub returns-in-Drop : goal.returns-in-Drop

@@ -2,7 +2,6 @@
 use native.Mathlib.Omega.{arith}
 use Rattle.octets.proofs.Splice.{spliced_front}
 use Rattle.tool.proofs.Lengths.{sent_length}
-use borrow.Author.Rules.{rules}
 use Rattle.tool.proofs.Tool.programming.Goals as goal
 
 pub returns : goal.returns

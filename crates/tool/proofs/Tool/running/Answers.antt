@@ -1,5 +1,4 @@
 -- `Tool::running` goes by the request.
-use borrow.Author.Rules.{rules}
 use Rattle.tool.proofs.Tool.running.Goals as goal
 
 pub programming-requires : goal.programming-requires

@@ -1,6 +1,5 @@
 -- `Tool::sending` sends the request's frame, which fits.
 use Rattle.tool.proofs.Admission.{limit_within}
-use borrow.Author.Rules.{rules}
 use Rattle.tool.proofs.Tool.sending.Goals as goal
 
 pub send-sent-requires : goal.send-sent-requires

@@ -10,10 +10,8 @@ use Rattle.tool.specs.Parts.{with_receiver, ended, told, responding}
 use Rattle.receiver.proofs.Follows.{session_end_follows}
 use Rattle.receiver.specs.Receiver.{Response, reception_of, holding}
 use Rattle.receiver.specs.Receiving.{on_session_end}
-use borrow.Author.Tests.{not-true, not-false}
 use mathlib.Core.Bool.{true}
 use mathlib.Core.Path.{◌≡◌, sym, ap, ◌∙◌}
-use borrow.Author.Rules.{rules}
 use Rattle.tool.proofs.Tool.session_end.Goals.{After-session_end-received, Else-not-sound}
 use Rattle.tool.proofs.Tool.session_end.Goals as goal
 

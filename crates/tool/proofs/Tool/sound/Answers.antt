@@ -1,8 +1,6 @@
 -- `Tool::sound` tests the length and then the receiver.
 use Rattle.tool.specs.Soundness.{sound}
-use borrow.Author.Tests.{not-true, not-false}
 use mathlib.Core.Path.{sym, ◌∙◌}
-use borrow.Author.Rules.{rules}
 use Rattle.tool.proofs.Tool.sound.Goals as goal
 
 pub returns-then-not-within_rec : goal.returns-then-not-within_rec

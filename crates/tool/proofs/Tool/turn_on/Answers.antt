@@ -2,7 +2,6 @@
 use Rattle.tool.proofs.Turning.{echo_turn}
 use mathlib.Core.Path.{sym, ◌∙◌}
 use Rattle.tool.specs.Replies.{turn}
-use borrow.Author.Rules.{rules}
 use Rattle.tool.proofs.Tool.turn_on.Goals as goal
 
 pub on_echo-requires : goal.on_echo-requires

@@ -1,5 +1,4 @@
 -- `Tool::waiting` has a phase, an address and an ADP of the request.
-use borrow.Author.Rules.{rules}
 use Rattle.tool.proofs.Tool.waiting.Goals as goal
 
 pub returns : goal.returns

@@ -1,5 +1,4 @@
 -- `Tool::wake_before` asks the wake-up rule.
-use borrow.Author.Rules.{rules}
 use Rattle.tool.proofs.Tool.wake_before.Goals as goal
 
 pub returns : goal.returns

@@ -1,5 +1,4 @@
 -- `send` builds a frame that fits: the builder does not refuse.
-use borrow.Author.Rules.{rules}
 use Rattle.frame.proofs.Sending.{sends, never_refused}
 use Rattle.tool.proofs.frames.send.Goals as goal
 

@@ -1,5 +1,4 @@
 -- `on_authenticating` goes by the replies to AUT.
-use borrow.Author.Rules.{rules}
 use Rattle.tool.proofs.replies.on_authenticating.Goals as goal
 
 pub returns-in-Dat : goal.returns-in-Dat

@@ -1,5 +1,4 @@
 -- `on_reading` goes by the replies to ENQ.
-use borrow.Author.Rules.{rules}
 use Rattle.tool.proofs.replies.on_reading.Goals as goal
 
 pub returns-else-asked : goal.returns-else-asked

@@ -1,5 +1,4 @@
 -- `on_transferring` goes by the replies to TRF.
-use borrow.Author.Rules.{rules}
 use Rattle.tool.proofs.replies.on_transferring.Goals as goal
 
 pub returns-in-Dat : goal.returns-in-Dat

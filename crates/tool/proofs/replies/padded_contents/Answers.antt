@@ -2,7 +2,6 @@
 use Rattle.octets.proofs.Splice.{spliced_front}
 use lib.ListN.{replicate}
 use Rattle.frame.specs.Sizes.{most_transferred}
-use borrow.Author.Rules.{rules}
 use Rattle.tool.proofs.replies.padded_contents.Goals as goal
 
 pub returns : goal.returns

@@ -2,7 +2,6 @@
 use Rattle.frame.specs.Addresses.{broadcast}
 use mathlib.Core.Bool.{not}
 use mathlib.Core.Path.{sym, ap, ◌∙◌}
-use borrow.Author.Rules.{rules}
 use Rattle.tool.proofs.requests.addressable.Goals as goal
 
 pub returns-then-broadcasts : goal.returns-then-broadcasts

@@ -1,5 +1,4 @@
 -- `answer_to` goes by the request.
-use borrow.Author.Rules.{rules}
 use Rattle.tool.proofs.requests.answer_to.Goals as goal
 
 pub returns-in-Enq : goal.returns-in-Enq

@@ -1,5 +1,4 @@
 -- `arguments_of` puts the lent octets into arrays.
-use borrow.Author.Rules.{rules}
 use Rattle.tool.proofs.requests.arguments_of.Goals as goal
 
 pub returns : goal.returns

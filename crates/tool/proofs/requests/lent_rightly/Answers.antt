@@ -1,5 +1,5 @@
 -- `lent_rightly` tests the four lengths.
-use borrow.Author.Tests.{eq-eqb, ne_eqb, le-leb, lt-leb}
+use borrow.Author.Tests.{eq-eqb, ne_eqb}
 use Rattle.tool.proofs.requests.lent_rightly.Goals as goal
 
 pub returns-then-ads-ne-ADDRESS_WIDTH : goal.returns-then-ads-ne-ADDRESS_WIDTH

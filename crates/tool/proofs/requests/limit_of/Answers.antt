@@ -1,5 +1,4 @@
 -- `limit_of` goes by the requests.
-use borrow.Author.Rules.{rules}
 use Rattle.tool.proofs.requests.limit_of.Goals as goal
 
 pub returns-in-Enq : goal.returns-in-Enq

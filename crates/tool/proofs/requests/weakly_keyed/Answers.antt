@@ -1,5 +1,4 @@
 -- `weakly_keyed` meets its contract.
-use borrow.Author.Rules.{rules}
 use Rattle.tool.proofs.requests.weakly_keyed.Goals as goal
 
 pub returns-in-Rec : goal.returns-in-Rec

@@ -1,0 +1,33 @@
+-- `phase_of` goes by the mark.
+use borrow.Author.Tests.{ne_eqb}
+use Rattle.tool_memory.specs.Marks.{phase_of}
+use Rattle.tool_memory.proofs.marks.phase_of.Goals as goal
+
+pub returns-in-0 : goal.returns-in-0
+unfolding phase_of
+returns-in-0 c = rw c.in-0.is
+
+pub returns-in-1 : goal.returns-in-1
+unfolding phase_of
+returns-in-1 c = rw c.in-1.is
+
+pub returns-in-2 : goal.returns-in-2
+unfolding phase_of
+returns-in-2 c = rw c.in-2.is
+
+pub returns-in-3 : goal.returns-in-3
+unfolding phase_of
+returns-in-3 c = rw c.in-3.is
+
+pub returns-in-4 : goal.returns-in-4
+unfolding phase_of
+returns-in-4 c = rw c.in-4.is
+
+pub returns-in-5 : goal.returns-in-5
+unfolding phase_of
+returns-in-5 c = rw c.in-5.is
+
+pub returns-in_default : goal.returns-in_default
+unfolding phase_of
+returns-in_default c = let r = c.in_default.in_default-own.rest in
+    rw (ne_eqb _ 0 r.0.0.0.0.0.1, ne_eqb _ 1 r.0.0.0.0.1, ne_eqb _ 2 r.0.0.0.1, ne_eqb _ 3 r.0.0.1, ne_eqb _ 4 r.0.1, ne_eqb _ 5 r.1) c.unused.ensures
