@@ -11,7 +11,7 @@ use lib.ListN.{length, get_or, drop}
 use lib.Seq.{get_or-drop}
 use Rattle.number.specs.Groups.{Front, found, none, front_number}
 use Rattle.swap.specs.Record.{known_kind, kind_of, length_limit, fits_kind}
-use Rattle.swap.specs.Items.{bad, good, judged, judged_content, good_address, good_kind, good_content, length_field, limited}
+use Rattle.swap.specs.Items.{bad, judged, judged_content, good_address, good_kind, good_content, length_field, limited}
 use Rattle.swap_before.specs.Before.{known_before, length_limit_before, fits_before, content_before, judged_before}
 use Rattle.swap_before.specs.Meeting.{long_kind}
 
