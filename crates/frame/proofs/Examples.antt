@@ -19,7 +19,7 @@ use Rattle.frame.specs.declared.content.Fields.{Fields}
 use Rattle.frame.specs.Codes.{code_of, commands, among, command_of}
 use Rattle.frame.specs.Layout.{layout_of, whole_length, can_have}
 use Rattle.frame.specs.Content.{on_wire, value_at, octet_at, fields_of, data_of}
-use Rattle.frame.specs.Checks.{stated_by, judged, judged_as, inspected, inspected_as, FrameRead, read_of, fields_in}
+use Rattle.frame.specs.Checks.{stated_by, judged, judged_as, inspected, inspected_as, read_of, fields_in}
 use Rattle.frame.specs.Building.{head_of, fixed_of, body_of, frame_octets}
 
 -- a command with fields and DATA to build from, the fields that are told of the frame, and the frame

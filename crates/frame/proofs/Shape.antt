@@ -1,12 +1,10 @@
 -- What owning a `Fields` by value tells of its lists. A function's proof cites it at `c.good`.
-use Prim.Native.Nat.{ℕ}
 use mathlib.Core.List.{List}
 use mir.Syntax.{w8}
 use mir.Val.{Val}
 use denote.Shadow.{shadow}
 use borrow.Author.Rules.{elem_Fits}
 use Rattle.frame.specs.declared.content.Fields.{Fields}
-use Rattle.frame.specs.Sizes.{address_width, number_width}
 use Rattle.frame.specs.Content.{Shaped}
 use Rattle.frame.specs.contracts.content.Fields as F
 

@@ -16,7 +16,7 @@ use Rattle.wake.specs.declared.Last.{Last}
 use Rattle.wake.specs.declared.Last.TheVariants.{EnqTrf, Other}
 use Rattle.wake.specs.declared.WakeUps.{WakeUps}
 use Rattle.wake.specs.Rule.{fresh, last_after, last_enq_trf, exchanges, awake, wake_before, calling, otherwise, asked, with_successes, succeeded}
-use Rattle.wake.specs.Clauses.{Ending, running, well, with_number, Entry, enq_or_trf, succeeds, is_wake_up, enqs_and_trfs, first, elsewhere, after_other, since_wake_up, counted, successes, most_exchanges, due}
+use Rattle.wake.specs.Clauses.{running, well, with_number, Entry, enq_or_trf, succeeds, is_wake_up, enqs_and_trfs, first, elsewhere, after_other, since_wake_up, counted, successes, most_exchanges, due}
 use Rattle.wake.specs.Lists.{sent, ended_as}
 
 -- a count up to five stands for the number n

@@ -1,13 +1,12 @@
 -- `crc::check_key` meets its contract. The loop's invariant: the word and the parity represent the octets passed, and what is left is whole turns.
 -- The measure is what is left of the length.
 -- Assumes nothing.
-use mathlib.Core.Path.{◌≡◌, ap, sym, ◌∙◌}
-use Prim.Native.Nat.{◌+◌, ◌-◌, ◌%◌, ◌≤◌}
+use mathlib.Core.Path.{ap, sym, ◌∙◌}
+use Prim.Native.Nat.{◌+◌, ◌-◌}
 use native.Mathlib.Omega.{arith}
-use lib.ListN.{length, take, length-take}
+use lib.ListN.{length-take}
 use lib.Seq.{length-take-le, take_all}
 use Rattle.crc.specs.AnnexE.{check_key}
-use Rattle.crc.specs.Residues.{Represent}
 use Rattle.crc.proofs.Represented.{sixteen_octets, next_octets}
 use Rattle.crc.proofs.check_key.Goals as goal
 

@@ -1,7 +1,6 @@
 -- `through_p` meets its contract: the sum of what the tables hold.
 -- Assumes nothing.
 use mathlib.Core.Path.{◌∙◌}
-use borrow.Author.Rules.{rules}
 use Rattle.computed.proofs.Entries.{◌with◌, unshifted}
 use Rattle.des_boxes.specs.Boxes.{box8}
 use Rattle.des_boxes.proofs.through_p.Goals as goal

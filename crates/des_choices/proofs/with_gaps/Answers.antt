@@ -1,7 +1,6 @@
 -- `with_gaps` meets its contract: the sum of what the tables hold.
 -- Assumes nothing.
 use mathlib.Core.Path.{◌∙◌}
-use borrow.Author.Rules.{rules}
 use Rattle.computed.proofs.Entries.{◌with◌, unshifted}
 use Rattle.des_choices.specs.Choices.{bits51to56, bits23to28}
 use Rattle.des_choices.proofs.with_gaps.Goals as goal

@@ -1,10 +1,6 @@
 -- `octets::equal` meets its contract: while the octets passed are equal, the lists are the same exactly if what is left of them is.
-use Prim.Native.Nat.{◌-◌, ◌≤◌}
-use mathlib.Core.Path.{◌≡◌, sym, ◌∙◌}
+use mathlib.Core.Path.{sym, ◌∙◌}
 use native.Mathlib.Omega.{arith}
-use lib.ListN.{length, drop}
-use borrow.Author.Rules.{rules}
-use Rattle.octets.specs.Part.{same}
 use Rattle.octets.proofs.Same.{same_long, same_differ, same_next, same_end}
 use Rattle.octets.proofs.equal.Goals as goal
 
@@ -17,10 +13,10 @@ returns-then-a-i c = let l = c.loop-i in
 
 pub loop-i-preserved : goal.loop-i-preserved
 loop-i-preserved c = let l = c.loop-i in (
-      omega arith,
-      l.invariant.1,
-      l.invariant.2 ∙ same_next _ _ l.i (omega arith) (omega arith) c.if-a-i.false,
-    )
+  omega arith,
+  l.invariant.1,
+  l.invariant.2 ∙ same_next _ _ l.i (omega arith) (omega arith) c.if-a-i.false,
+)
 
 pub returns : goal.returns
 returns c = let l = c.loop-i in

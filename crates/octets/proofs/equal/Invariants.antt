@@ -1,11 +1,8 @@
 -- `octets::equal` meets its contract: while the octets passed are equal, the lists are the same exactly if what is left of them is.
 use Prim.Native.Nat.{◌-◌, ◌≤◌}
-use mathlib.Core.Path.{◌≡◌, sym, ◌∙◌}
-use native.Mathlib.Omega.{arith}
+use mathlib.Core.Path.{◌≡◌}
 use lib.ListN.{length, drop}
-use borrow.Author.Rules.{rules}
 use Rattle.octets.specs.Part.{same}
-use Rattle.octets.proofs.Same.{same_long, same_differ, same_next, same_end}
 use Rattle.octets.proofs.equal.Given as goal
 
 abbrev pub invariant-loop-i : goal.invariant-loop-i

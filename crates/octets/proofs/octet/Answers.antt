@@ -1,7 +1,6 @@
 -- `octets::octet` meets its contract: past the end `get_or` is its default, 0.
 use mathlib.Core.Path.{sym}
 use lib.ListN.{get_or-eq_default}
-use borrow.Author.Rules.{rules}
 use Rattle.octets.proofs.octet.Goals as goal
 
 pub returns-else-at-s : goal.returns-else-at-s

@@ -1,7 +1,6 @@
 -- `octets::part` meets its contract: each answer is a case of `part_of`.
 use mathlib.Core.Path.{sym}
 use native.Mathlib.Omega.{arith}
-use borrow.Author.Rules.{rules}
 use Rattle.octets.proofs.Parts.{part_there, part_past, part_none}
 use Rattle.octets.proofs.part.Goals as goal
 

@@ -1,12 +1,8 @@
 -- `octets::put_reversed` meets its contract: the loop of `put` over the reversed list, whose i-th octet is read from the end of src.
 use Prim.Native.Nat.{◌-◌}
-use mathlib.Core.Path.{sym}
 use mathlib.Core.List.{reverse}
-use native.Mathlib.Omega.{arith}
-use lib.ListN.{length, length-reverse}
-use borrow.Author.Rules.{rules}
-use Rattle.octets.proofs.Laying.{Laying, start, as_long, next, end, get_or-reverse}
-use Rattle.octets.proofs.Splice.{spliced_past}
+use lib.ListN.{length}
+use Rattle.octets.proofs.Laying.{Laying}
 use Rattle.octets.proofs.put_reversed.Given as goal
 
 abbrev pub invariant-loop-i : goal.invariant-loop-i

@@ -1,8 +1,7 @@
 -- `decimal_of` meets its contract: the digits of what is left stand before those that are laid.
 use mathlib.Core.Path.{refl, sym}
 use lib.ListN.{length-set}
-use Rattle.text.proofs.Digits.{Laid, none_laid, digit_laid, all_laid}
-use borrow.Author.Rules.{rules}
+use Rattle.text.proofs.Digits.{none_laid, digit_laid, all_laid}
 use native.Mathlib.Omega.{arith}
 use Rattle.text.proofs.decimal_of.Goals as goal
 
@@ -17,6 +16,6 @@ loop-rest-preserved c = digit_laid _ _ _ _ c.loop-rest.invariant c.loop-rest-tes
 
 pub returns : goal.returns
 returns c = let l = c.loop-rest in (
-      rw length-set (sym l.invariant.long),
-      (omega (arith, l.invariant.most), all_laid _ _ _ _ l.invariant c.loop-rest-test.false),
-    )
+  rw length-set (sym l.invariant.long),
+  (omega (arith, l.invariant.most), all_laid _ _ _ _ l.invariant c.loop-rest-test.false),
+)

@@ -1,9 +1,5 @@
 -- `decimal_of` meets its contract: the digits of what is left stand before those that are laid.
-use mathlib.Core.Path.{refl, sym}
-use lib.ListN.{length-set}
-use Rattle.text.proofs.Digits.{Laid, none_laid, digit_laid, all_laid}
-use borrow.Author.Rules.{rules}
-use native.Mathlib.Omega.{arith}
+use Rattle.text.proofs.Digits.{Laid}
 use Rattle.text.proofs.decimal_of.Given as goal
 
 abbrev pub invariant-loop-rest : goal.invariant-loop-rest

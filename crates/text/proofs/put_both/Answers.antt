@@ -2,7 +2,6 @@
 use lib.ListN.{length-append}
 use Rattle.text.proofs.Writing.{unwritten, joined}
 use native.Mathlib.Omega.{arith}
-use borrow.Author.Rules.{rules}
 use Rattle.text.proofs.put_both.Goals as goal
 
 pub returns-then-buffer-first : goal.returns-then-buffer-first

@@ -1,9 +1,6 @@
 -- `put_digits` meets its contract: after i turns the digits of the first i octets are laid.
-use Prim.Native.Nat.{◌-◌}
 use mathlib.Core.Path.{refl}
-use lib.ListN.{length}
-use Rattle.text.proofs.Hexadecimal.{Laying, start, as_long, turn, end}
-use borrow.Author.Rules.{rules}
+use Rattle.text.proofs.Hexadecimal.{start, as_long, turn, end}
 use native.Mathlib.Omega.{arith}
 use Rattle.text.proofs.put_digits.Goals as goal
 

@@ -1,10 +1,7 @@
 -- `put_digits` meets its contract: after i turns the digits of the first i octets are laid.
 use Prim.Native.Nat.{◌-◌}
-use mathlib.Core.Path.{refl}
 use lib.ListN.{length}
-use Rattle.text.proofs.Hexadecimal.{Laying, start, as_long, turn, end}
-use borrow.Author.Rules.{rules}
-use native.Mathlib.Omega.{arith}
+use Rattle.text.proofs.Hexadecimal.{Laying}
 use Rattle.text.proofs.put_digits.Given as goal
 
 abbrev pub invariant-loop-i : goal.invariant-loop-i

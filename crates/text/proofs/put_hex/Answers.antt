@@ -3,7 +3,6 @@ use lib.ListN.{length-append}
 use Rattle.text.proofs.Writing.{unwritten, room_after, joined}
 use Rattle.text.proofs.Hexadecimal.{length_hex}
 use native.Mathlib.Omega.{arith}
-use borrow.Author.Rules.{rules}
 use Rattle.text.proofs.put_hex.Goals as goal
 
 pub returns-then-buffer-words : goal.returns-then-buffer-words

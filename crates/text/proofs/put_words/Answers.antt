@@ -2,7 +2,6 @@
 use mathlib.Core.Path.{sym}
 use Rattle.text.proofs.Writing.{unwritten, after_fits}
 use native.Mathlib.Omega.{arith}
-use borrow.Author.Rules.{rules}
 use Rattle.text.proofs.put_words.Goals as goal
 
 pub returns-then-buffer-words : goal.returns-then-buffer-words

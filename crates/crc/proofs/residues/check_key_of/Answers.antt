@@ -2,7 +2,6 @@
 -- Assumes nothing.
 use mathlib.Core.Path.{ap, ap₂, ◌∙◌}
 use Prim.Native.Nat.{ℕ}
-use borrow.Author.Rules.{rules}
 use lib.Bits.{bit_xor}
 use Rattle.computed.specs.Steps.{value}
 use Rattle.computed.specs.Steps.{right, then, sum}

@@ -1,7 +1,6 @@
 -- `crc::residues::moved` meets its contract.
 -- Assumes nothing.
 use mathlib.Core.Path.{ap}
-use borrow.Author.Rules.{rules}
 use Rattle.computed.specs.Steps.{value}
 use Rattle.computed.specs.Steps.{right, sum}
 use Rattle.crc.proofs.residues.moved.Goals as goal

@@ -3,12 +3,10 @@
 -- Assumes nothing.
 use mathlib.Core.Path.{◌≡◌}
 use mathlib.Core.List.{[]}
-use Prim.Native.Nat.{ℕ, ◌-◌, ◌≤◌}
 use native.Mathlib.Omega.{arith}
-use lib.Bits.{bit_xor, xor_zero_r}
-use lib.ListN.{length, drop, drop_of_length-le}
+use lib.Bits.{xor_zero_r}
+use lib.ListN.{drop, drop_of_length-le}
 use Rattle.computed.proofs.Xor.{xor_assoc}
-use Rattle.crc.specs.Residues.{Represent}
 use Rattle.crc.proofs.Represented.{no_octets, next_octet}
 use Rattle.crc.proofs.residues.word_of.Goals as goal
 

@@ -3,7 +3,6 @@ use mathlib.Core.Path.{refl}
 use lib.Dec.{leb}
 use lib.ListN.{length}
 use borrow.Author.Tests.{leb-true}
-use borrow.Author.Rules.{rules}
 use Rattle.frame.specs.Sizes.{longest_frame}
 use Rattle.frame.specs.Layout.{within}
 use Rattle.frame.specs.Building.{built}

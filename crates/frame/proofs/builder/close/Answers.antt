@@ -2,7 +2,6 @@
 use mathlib.Core.Path.{refl, sym}
 use native.Mathlib.Omega.{arith}
 use lib.Seq.{length-take-le}
-use borrow.Author.Rules.{rules}
 use Rattle.frame.proofs.builder.close.Goals as goal
 
 pub slice_bounds-check_key-end-2 : goal.slice_bounds-check_key-end-2

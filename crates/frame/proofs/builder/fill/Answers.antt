@@ -1,6 +1,5 @@
 -- `fill` meets its contract: DATA is as long as the lent part, so it takes the place of all of it.
 use mathlib.Core.Path.{sym, ◌∙◌}
-use borrow.Author.Rules.{rules}
 use Rattle.octets.proofs.Splice.{spliced_whole}
 use Rattle.frame.proofs.builder.fill.Goals as goal
 

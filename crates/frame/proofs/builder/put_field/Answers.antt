@@ -2,7 +2,6 @@
 use mathlib.Core.Path.{refl, sym}
 use native.Mathlib.Nat.{add-zero}
 use lib.ListN.{length, length-reverse, length-replicate}
-use borrow.Author.Rules.{rules}
 use Rattle.octets.proofs.Splice.{spliced_nothing}
 use Rattle.frame.specs.Content.{on_wire}
 use Rattle.frame.proofs.Writing.{take_zeros}

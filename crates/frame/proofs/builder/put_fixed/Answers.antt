@@ -2,7 +2,6 @@
 use mathlib.Core.List.{[], ◌∷◌}
 use mathlib.Core.Path.{refl, sym}
 use native.Mathlib.Omega.{arith}
-use borrow.Author.Rules.{rules}
 use Rattle.frame.specs.Sizes.{address_width, number_width, tab_width}
 use Rattle.frame.specs.Content.{on_wire}
 use Rattle.frame.specs.Building.{fixed_of}

@@ -1,5 +1,4 @@
 -- `refusal_number` meets its contract: arm by arm, the number of 01's table.
-use borrow.Author.Rules.{rules}
 use Rattle.frame.proofs.builder.refusal_number.Goals as goal
 
 pub returns-in-Buffer : goal.returns-in-Buffer

@@ -2,7 +2,6 @@
 use mathlib.Core.Path.{◌≡◌, sym}
 use native.Mathlib.Omega.{arith}
 use borrow.Rule.Slice.PartMut.{same_len_mid}
-use borrow.Author.Rules.{rules}
 use Rattle.frame.specs.Layout.{layout_of, places_of}
 use Rattle.frame.proofs.Shape.{shaped}
 use Rattle.frame.proofs.Widths.{limits}

@@ -1,6 +1,5 @@
 -- `check_command` meets its contract: the code is the octet at offset 8.
 use mathlib.Core.Path.{ap, ◌∙◌}
-use borrow.Author.Rules.{rules}
 use Rattle.frame.specs.Codes.{command_of}
 use Rattle.frame.proofs.checks.check_command.Goals as goal
 

@@ -1,5 +1,4 @@
 -- `check_crc` meets its contract: the answer follows the test of Annex E.
-use borrow.Author.Rules.{rules}
 use Rattle.frame.proofs.checks.check_crc.Goals as goal
 
 pub returns-then-divisible : goal.returns-then-divisible

@@ -2,7 +2,6 @@
 use mathlib.Core.Path.{◌≡◌}
 use native.Mathlib.Omega.{arith}
 use lib.ListN.{length}
-use borrow.Author.Rules.{rules}
 use Rattle.frame.specs.Layout.{layout_of, places_of}
 use Rattle.frame.proofs.Widths.{limits, can_have_lem, too_short, too_long}
 use Rattle.frame.proofs.checks.check_length.Goals as goal

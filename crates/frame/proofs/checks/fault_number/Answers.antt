@@ -1,5 +1,4 @@
 -- `fault_number` meets its contract: arm by arm, the number of 01's table.
-use borrow.Author.Rules.{rules}
 use Rattle.frame.proofs.checks.fault_number.Goals as goal
 
 pub returns-in-OutOfRange : goal.returns-in-OutOfRange

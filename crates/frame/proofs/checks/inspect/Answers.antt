@@ -1,7 +1,6 @@
 -- `inspect` meets its contract: an empty slice first, then each `let .. else` is a case of `inspected`.
 use mathlib.Core.Path.{sym}
 use lib.Dec.{eqb}
-use borrow.Author.Rules.{rules}
 use Rattle.numbers.specs.Answer.{when_given}
 use Rattle.frame.specs.Checks.{inspected_as}
 use Rattle.frame.proofs.Told.{told_first, told_second, extents_differ}

@@ -1,5 +1,4 @@
 -- `judge` meets its contract: each `let .. else` is a case of `judged`, in its order.
-use borrow.Author.Rules.{rules}
 use Rattle.numbers.specs.Answer.{when_given}
 use Rattle.crc.specs.AnnexE.{divides}
 use Rattle.frame.specs.Layout.{can_have}

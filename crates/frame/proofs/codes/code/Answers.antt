@@ -1,5 +1,4 @@
 -- `code` meets its contract: arm by arm, the code of Table D.1.
-use borrow.Author.Rules.{rules}
 use Rattle.frame.specs.Codes.{code_of}
 use Rattle.frame.proofs.codes.code.Goals as goal
 

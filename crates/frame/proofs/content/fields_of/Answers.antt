@@ -1,7 +1,6 @@
 -- `fields_of` meets its contract: each field is read at its place in the layout, over zeros.
 use mathlib.Core.Path.{refl}
 use native.Mathlib.Omega.{arith}
-use borrow.Author.Rules.{rules}
 use Rattle.frame.specs.Content.{fields_of}
 use Rattle.frame.proofs.Widths.{content_most}
 use Rattle.frame.proofs.content.fields_of.Goals as goal

@@ -1,5 +1,4 @@
 -- `octet_at` meets its contract: one answer for each presence.
-use borrow.Author.Rules.{rules}
 use Rattle.frame.specs.Content.{octet_at}
 use Rattle.frame.proofs.content.octet_at.Goals as goal
 

@@ -1,5 +1,4 @@
 -- `read` meets its contract: the verdict of `inspect`, and fields where it is good.
-use borrow.Author.Rules.{rules}
 use Rattle.frame.specs.Checks.{read_of, fields_in}
 use Rattle.frame.proofs.content.read.Goals as goal
 

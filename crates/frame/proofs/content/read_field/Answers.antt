@@ -1,5 +1,4 @@
 -- `read_field` meets its contract: one answer for each presence.
-use borrow.Author.Rules.{rules}
 use Rattle.frame.specs.Content.{value_at}
 use Rattle.frame.proofs.OneField.{value_over_zeros}
 use Rattle.frame.proofs.content.read_field.Goals as goal

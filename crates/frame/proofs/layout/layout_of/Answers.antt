@@ -1,5 +1,4 @@
 -- `layout_of` meets its contract: arm by arm, the command's row.
-use borrow.Author.Rules.{rules}
 use Rattle.frame.specs.Layout.{layout_of}
 use Rattle.frame.proofs.layout.layout_of.Goals as goal
 

@@ -1,6 +1,5 @@
 -- `places_of` meets its contract: each offset is the last one and the width of the field there; 32 is the highest.
 use native.Mathlib.Omega.{arith}
-use borrow.Author.Rules.{rules}
 use Rattle.frame.specs.Sizes.{number_width, tab_width}
 use Rattle.frame.proofs.Widths.{width_most, content_most}
 use Rattle.frame.proofs.layout.places_of.Goals as goal
@@ -20,17 +19,17 @@ overflow_add-announced_at c = let l = c.args.layout in
 
 pub overflow_add-content_at : goal.overflow_add-content_at
 overflow_add-content_at c = rw (
-      c.width_of-3.ensures,
-      c.width_of-2.ensures,
-      c.width_of.ensures,
-      c.width_of-za2_at.ensures,
-    )
+  c.width_of-3.ensures,
+  c.width_of-2.ensures,
+  c.width_of.ensures,
+  c.width_of-za2_at.ensures,
+)
     (omega (arith, content_most c.args.layout))
 
 pub returns : goal.returns
 returns c = rw (
-      c.width_of-3.ensures,
-      c.width_of-2.ensures,
-      c.width_of.ensures,
-      c.width_of-za2_at.ensures,
-    )
+  c.width_of-3.ensures,
+  c.width_of-2.ensures,
+  c.width_of.ensures,
+  c.width_of-za2_at.ensures,
+)

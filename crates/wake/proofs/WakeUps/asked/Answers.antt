@@ -1,7 +1,6 @@
 -- `WakeUps::asked` has a function for each side of the test.
 use mathlib.Core.Path.{sym, ◌∙◌}
 use Rattle.wake.specs.Rule.{asked}
-use borrow.Author.Rules.{rules}
 use Rattle.wake.proofs.WakeUps.asked.Goals as goal
 
 pub returns-then-enq_or_trf : goal.returns-then-enq_or_trf

@@ -1,8 +1,6 @@
 -- `WakeUps::awake` asks the three things in turn.
 use mathlib.Core.Path.{sym, ◌∙◌}
-use borrow.Author.Tests.{not-true, not-false}
 use Rattle.wake.specs.Rule.{awake}
-use borrow.Author.Rules.{rules}
 use Rattle.wake.proofs.WakeUps.awake.Goals as goal
 
 pub returns-in_default : goal.returns-in_default

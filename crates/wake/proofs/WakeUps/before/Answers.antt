@@ -1,8 +1,6 @@
 -- `WakeUps::before` asks for an ENQ or TRF first.
 use mathlib.Core.Path.{sym, ◌∙◌}
-use borrow.Author.Tests.{not-true, not-false}
 use Rattle.wake.specs.Rule.{wake_before}
-use borrow.Author.Rules.{rules}
 use Rattle.wake.proofs.WakeUps.before.Goals as goal
 
 pub returns-then-not-enq_or_trf : goal.returns-then-not-enq_or_trf

@@ -1,6 +1,5 @@
 -- `WakeUps::calling` keeps the count where no wake-up comes.
 use mathlib.Core.Path.{sym, ◌∙◌}
-use borrow.Author.Rules.{rules}
 use Rattle.wake.proofs.WakeUps.calling.Goals as goal
 
 pub returns-then-awake : goal.returns-then-awake

@@ -1,7 +1,6 @@
 -- `WakeUps::succeeded` counts an ENQ or TRF up to five.
 use Rattle.wake.specs.Rule.{succeeded}
 use borrow.Author.Tests.{lt-ltb, le-ltb}
-use borrow.Author.Rules.{rules}
 use Rattle.wake.proofs.WakeUps.succeeded.Goals as goal
 
 pub returns-in_default : goal.returns-in_default
