@@ -1,0 +1,8 @@
+-- `compare_files` is safe and ends: the records that are left fall by one a turn.
+use Rattle.day.proofs.hours.compare_files.Given as goal
+
+abbrev pub invariant-loop-left : goal.invariant-loop-left
+invariant-loop-left g l = Unit {0}
+
+abbrev pub decreases-loop-left : goal.decreases-loop-left
+decreases-loop-left g l = l.left
