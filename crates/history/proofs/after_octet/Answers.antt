@@ -14,7 +14,6 @@ slice_bounds-octet-end c = let short : c.args.reply ≤ longest_lent = omega ari
 
 pub returns : goal.returns
 unfolding after
-returns c = let s = c in
-    let short : s.args.reply ≤ longest_lent = omega arith in
+returns c = let short : c.args.reply ≤ longest_lent = omega arith in
     c.octet-stepped.ensures.card
-    ∙ ap (λ (n : ℕ). (after_octet s.args.card s.args.octet (record { na2 = s.args.na2.now; reply = n })).card) (length-take-le s.args.reply (replicate longest_lent 0) short)
+    ∙ ap (λ (n : ℕ). (after_octet c.args.card c.args.octet (record { na2 = c.args.na2.now; reply = n })).card) (length-take-le c.args.reply (replicate longest_lent 0) short)
