@@ -1,7 +1,6 @@
 // The key schedule KS. C0 and D0 are held twice each, one after the other in a word, so that 28 bits of the word are the half after any number of
 // left shifts.
 ghost use Rattle.std.specs.Prelude.{◌≡◌, List, ◌++◌, ℕ, ◌^◌, ◌≤◌, ◌<◌, length, get_or};
-ghost use Rattle.computed.specs.Other.{Other};
 ghost use Rattle.des.specs.Des.{both_shifted, key_halves};
 ghost use Rattle.des.specs.Words.{Word, HalvesHeld, KeyHeld, shifts_up_to, order};
 
@@ -24,14 +23,6 @@ pub(crate) fn twice(half: u64) -> u64
     ensures { (b : List ℕ) → Word 28 b half → Word 56 (b ++ b) result }
 {
     half * KEY_HALF + half
-}
-
-// The arm that is left where each number below 17 has its own: no number reaches it.
-fn never(v: u64) -> u64
-    requires { (v < 17) × Other 17 v }
-    ensures { ⊥ }
-{
-    0
 }
 
 // The left shifts of C and D up to round n.
@@ -57,7 +48,7 @@ fn shifts_up_to(n: u64) -> u64
         14 => 25,
         15 => 27,
         16 => 28,
-        _ => never(n),
+        _ => unreachable!(),
     }
 }
 

@@ -2,16 +2,7 @@
 // What each selection function of FIPS 46-3 selects, in the places where the permutation P puts it. A match of constants is kept as a static
 // table, where a const array would be built on the stack wherever it is named.
 ghost use Rattle.std.specs.Prelude.{◌≡◌, ◌<◌, get_or};
-ghost use Rattle.computed.specs.Other.{Other};
 ghost use Rattle.des_boxes.specs.Boxes.{box1, box2, box3, box4, box5, box6, box7, box8, through_p};
-
-// The arm that is left where each number below 64 has its own: no number reaches it.
-fn never(v: u64) -> u32
-    requires { (v < 64) × Other 64 v }
-    ensures { ⊥ }
-{
-    0
-}
 
 // S1 of six bits, through P.
 fn box1(v: u64) -> u32
@@ -83,7 +74,7 @@ fn box1(v: u64) -> u32
         61 => 0x00008200,
         62 => 0x00000000,
         63 => 0x00808002,
-        _ => never(v),
+        _ => unreachable!(),
     }
 }
 
@@ -157,7 +148,7 @@ fn box2(v: u64) -> u32
         61 => 0x40080010,
         62 => 0x40084010,
         63 => 0x00084000,
-        _ => never(v),
+        _ => unreachable!(),
     }
 }
 
@@ -231,7 +222,7 @@ fn box3(v: u64) -> u32
         61 => 0x00000004,
         62 => 0x04010004,
         63 => 0x00010100,
-        _ => never(v),
+        _ => unreachable!(),
     }
 }
 
@@ -305,7 +296,7 @@ fn box4(v: u64) -> u32
         61 => 0x00400000,
         62 => 0x00001000,
         63 => 0x00401040,
-        _ => never(v),
+        _ => unreachable!(),
     }
 }
 
@@ -379,7 +370,7 @@ fn box5(v: u64) -> u32
         61 => 0x20040000,
         62 => 0x01040080,
         63 => 0x20000080,
-        _ => never(v),
+        _ => unreachable!(),
     }
 }
 
@@ -453,7 +444,7 @@ fn box6(v: u64) -> u32
         61 => 0x10000000,
         62 => 0x00200008,
         63 => 0x10002008,
-        _ => never(v),
+        _ => unreachable!(),
     }
 }
 
@@ -527,7 +518,7 @@ fn box7(v: u64) -> u32
         61 => 0x02000400,
         62 => 0x00000400,
         63 => 0x00100001,
-        _ => never(v),
+        _ => unreachable!(),
     }
 }
 
@@ -601,7 +592,7 @@ fn box8(v: u64) -> u32
         61 => 0x00020020,
         62 => 0x08000000,
         63 => 0x08020800,
-        _ => never(v),
+        _ => unreachable!(),
     }
 }
 

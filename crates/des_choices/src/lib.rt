@@ -2,16 +2,7 @@
 // Where permuted choice 2 of FIPS 46-3 puts each part of C and D, with gaps between the blocks of six. A match of constants is kept as a static
 // table, where a const array would be built on the stack wherever it is named.
 ghost use Rattle.std.specs.Prelude.{◌≡◌, ◌<◌, get_or};
-ghost use Rattle.computed.specs.Other.{Other};
 ghost use Rattle.des_choices.specs.Choices.{bits1to4, bits5to10, bits11to16, bits17to22, bits23to28, bits29to32, bits33to38, bits39to44, bits45to50, bits51to56, with_gaps};
-
-// The arm that is left where each number below n has its own: no number reaches it.
-fn never(n: u64, v: u64) -> u64
-    requires { (v < n) × Other n v }
-    ensures { ⊥ }
-{
-    0
-}
 
 // Where permuted choice 2 puts bits 1 to 4 of C and D.
 fn bits_1_to_4(v: u64) -> u64
@@ -35,7 +26,7 @@ fn bits_1_to_4(v: u64) -> u64
         13 => 0x0810000000010000,
         14 => 0x0800000020010000,
         15 => 0x0810000020010000,
-        _ => never(16, v),
+        _ => unreachable!(),
     }
 }
 
@@ -109,7 +100,7 @@ fn bits_5_to_10(v: u64) -> u64
         61 => 0x0404000005100000,
         62 => 0x0404000004100000,
         63 => 0x0404000005100000,
-        _ => never(64, v),
+        _ => unreachable!(),
     }
 }
 
@@ -183,7 +174,7 @@ fn bits_11_to_16(v: u64) -> u64
         61 => 0xA020000000220000,
         62 => 0xA020000008020000,
         63 => 0xA020000008220000,
-        _ => never(64, v),
+        _ => unreachable!(),
     }
 }
 
@@ -257,7 +248,7 @@ fn bits_17_to_22(v: u64) -> u64
         61 => 0x4040000000040000,
         62 => 0x4040000002040000,
         63 => 0x4040000002040000,
-        _ => never(64, v),
+        _ => unreachable!(),
     }
 }
 
@@ -331,7 +322,7 @@ fn bits_23_to_28(v: u64) -> u64
         61 => 0x1088000010000000,
         62 => 0x1088000000080000,
         63 => 0x1088000010080000,
-        _ => never(64, v),
+        _ => unreachable!(),
     }
 }
 
@@ -357,7 +348,7 @@ fn bits_29_to_32(v: u64) -> u64
         13 => 0x0000000000002003,
         14 => 0x0000200000002002,
         15 => 0x0000200000002003,
-        _ => never(16, v),
+        _ => unreachable!(),
     }
 }
 
@@ -431,7 +422,7 @@ fn bits_33_to_38(v: u64) -> u64
         61 => 0x0000000800000204,
         62 => 0x0000100800000204,
         63 => 0x0000100800000204,
-        _ => never(64, v),
+        _ => unreachable!(),
     }
 }
 
@@ -505,7 +496,7 @@ fn bits_39_to_44(v: u64) -> u64
         61 => 0x000080A000001010,
         62 => 0x0000802000001010,
         63 => 0x000080A000001010,
-        _ => never(64, v),
+        _ => unreachable!(),
     }
 }
 
@@ -579,7 +570,7 @@ fn bits_45_to_50(v: u64) -> u64
         61 => 0x0000080000000528,
         62 => 0x0000084000000520,
         63 => 0x0000084000000528,
-        _ => never(64, v),
+        _ => unreachable!(),
     }
 }
 
@@ -653,7 +644,7 @@ fn bits_51_to_56(v: u64) -> u64
         61 => 0x0000401400000800,
         62 => 0x0000440400000800,
         63 => 0x0000441400000800,
-        _ => never(64, v),
+        _ => unreachable!(),
     }
 }
 

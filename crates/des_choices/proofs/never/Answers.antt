@@ -1,7 +1,0 @@
--- `never` meets its contract: a number below n is one of the numbers below n.
--- Assumes nothing.
-use Rattle.computed.proofs.Tests.{none_other}
-use Rattle.des_choices.proofs.never.Goals as goal
-
-pub returns : goal.returns
-returns c = none_other c.args.n c.args.v c.requires.0 c.requires.1
