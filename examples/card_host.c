@@ -2,7 +2,7 @@
  * one that is not, a reading, programming with a wrong and a right authentication, meter writes. It prints each frame that the tool sends, what
  * the card answers, and the number that the board gets.
  *
- *   rt staticlib card_exports && rt staticlib frame_exports && rt staticlib primitive_exports
+ *   tools/archives card_exports frame_exports primitive_exports
  *   cc -Iinclude examples/card_host.c -Ltarget/staticlib -lcard_exports -lframe_exports -lprimitive_exports -o target/card_host
  */
 #include "fresh_number.h"

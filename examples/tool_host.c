@@ -3,7 +3,7 @@
  * reply and loses another; a request that nobody answered is made again, and every record arrives. A weak key is refused before anything is sent.
  * It prints each frame, and the number that each request ends with.
  *
- *   for archive in tool_exports swap_exports card_exports primitive_exports; do rt staticlib $archive; done
+ *   tools/archives tool_exports swap_exports card_exports primitive_exports
  *   cc -Iinclude examples/tool_host.c -Ltarget/staticlib -ltool_exports -lswap_exports -lcard_exports -lprimitive_exports -o target/tool_host
  */
 #include "fresh_number.h"

@@ -1,6 +1,6 @@
 /* The communication card (the secondary station of IEC 62056-3-1 without DLMS) for a meter board's program in C.
  *
- * Link libcard_exports.a (`rt staticlib card_exports` writes it to target/staticlib/). The board lends the card its memory with every call
+ * Link libcard_exports.a (`tools/archives card_exports` writes it to target/staticlib/). The board lends the card its memory with every call
  * and keeps it between calls; the library keeps nothing. docs/MEMORY.md gives the memory's layout octet by octet.
  *
  * THE BOARD'S DUTIES
@@ -30,7 +30,7 @@
  * read 33,560 (examples/call_stack.c). The card's records are taken out of the memory whole for each call, which is where the stack goes.
  * Nothing is allocated elsewhere.
  *
- * The archive is for x86-64 Linux today, since that is what `rt staticlib` compiles for. A board of another kind needs a kit that compiles for
+ * The archive is for x86-64 Linux today, since that is what the kit compiles for. A board of another kind needs a kit that compiles for
  * its processor and C calling convention, with a size_t of 64 bits or the proofs made again for its own width; memcpy, the one function that the
  * archive calls; and room for memory and stack. The sources and their proofs stay as they are. */
 #ifndef PROPOLISK_CARD_H

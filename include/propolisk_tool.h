@@ -1,6 +1,6 @@
 /* The primary station (the fitter's hand tool) for C programs: one request at a time, its replies, and the wake-up rule.
  *
- * Link libtool_exports.a (`rt staticlib tool_exports` writes it to target/staticlib/, for x86-64 Linux). Addresses, keys and numbers are in
+ * Link libtool_exports.a (`tools/archives tool_exports` writes it to target/staticlib/, for x86-64 Linux). Addresses, keys and numbers are in
  * written order, most significant octet first; on the wire they go the other way round. Buffers of one call must not overlap, and no
  * pointer is null, also where its count is 0.
  *
