@@ -48,7 +48,7 @@
 #define PROPOLISK_CARD_REPLY 128
 #define PROPOLISK_CARD_DATA 116
 /* Octets of stack that a call needs at most, as measured. */
-#define PROPOLISK_CARD_STACK 57344
+#define PROPOLISK_CARD_STACK 114688
 
 /* The second octet of an entry: what sort of record it is. */
 #define PROPOLISK_CARD_RAW 0

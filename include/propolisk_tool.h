@@ -41,7 +41,7 @@
 
 #define PROPOLISK_TOOL_MEMORY 278
 /* Octets of stack that a call needs at most, as measured. */
-#define PROPOLISK_TOOL_STACK 2560
+#define PROPOLISK_TOOL_STACK 3584
 
 /* Writes a fresh tool: no request runs, the receiver is empty, and there was no request yet. What the memory held is not looked at. */
 void propolisk_tool_new(uint8_t memory[PROPOLISK_TOOL_MEMORY]);
