@@ -1,6 +1,6 @@
 /* Whole frames of IEC 62056-3-1 without DLMS for C programs: a builder and a reader.
  *
- * Link libframe_exports.a (`tools/archives frame_exports` writes it to target/staticlib/, for x86-64 Linux). Addresses and numbers are in
+ * Link libframe_exports.a (`tools/archives frame_exports` writes it to target/staticlib/, for x86-64-v2 Linux). Addresses and numbers are in
  * written order, most significant octet first; on the wire they go the other way round. Buffers of one call must not overlap, and no
  * pointer is null, also where its count is 0. A refusal changes nothing that is lent. */
 #ifndef PROPOLISK_FRAME_H

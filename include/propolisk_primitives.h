@@ -1,9 +1,9 @@
 /* For C programs: the check key of IEC 62056-3-1 Annex E, one DES block of FIPS 46-3, and fitting a label of RFC 3629 text.
  *
- * Link libprimitive_exports.a (`tools/archives primitive_exports` writes it to target/staticlib/, for x86-64 Linux). No call keeps anything between calls or
+ * Link libprimitive_exports.a (`tools/archives primitive_exports` writes it to target/staticlib/, for x86-64-v2 Linux). No call keeps anything between calls or
  * writes anything but what its sentence names. Buffers of one call must not overlap, and no pointer is null, also where its count is 0.
  *
- * Stack, measured in octets below the caller (examples/call_stack.c): one DES block, either way, 112, with one round key held at a time; a check key
+ * Stack, measured in octets below the caller (examples/call_stack.c): one DES block, either way, 104, with one round key held at a time; a check key
  * 32, its test 48; fit 80. */
 #ifndef PROPOLISK_PRIMITIVES_H
 #define PROPOLISK_PRIMITIVES_H

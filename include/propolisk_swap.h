@@ -1,10 +1,10 @@
 /* The swap file for C programs: the verdict on a file, its records one by one, the writer, and a list that collects records for it.
  *
- * Link libswap_exports.a (`tools/archives swap_exports` writes it to target/staticlib/, for x86-64 Linux). Buffers and cells of one call must
+ * Link libswap_exports.a (`tools/archives swap_exports` writes it to target/staticlib/, for x86-64-v2 Linux). Buffers and cells of one call must
  * not overlap, and no pointer is null, also where its count is 0. ADS is in written order, most significant octet first. A refusal changes
  * nothing that is lent but the cell that it names.
  *
- * Stack, measured in octets below the caller (examples/call_stack.c): add 106,880, all other calls under 350. */
+ * Stack, measured in octets below the caller (examples/call_stack.c): add 106,888, all other calls under 350. */
 #ifndef PROPOLISK_SWAP_H
 #define PROPOLISK_SWAP_H
 

@@ -1,6 +1,6 @@
 /* The primary station (the fitter's hand tool) for C programs: one request at a time, its replies, and the wake-up rule.
  *
- * Link libtool_exports.a (`tools/archives tool_exports` writes it to target/staticlib/, for x86-64 Linux). Addresses, keys and numbers are in
+ * Link libtool_exports.a (`tools/archives tool_exports` writes it to target/staticlib/, for x86-64-v2 Linux). Addresses, keys and numbers are in
  * written order, most significant octet first; on the wire they go the other way round. Buffers of one call must not overlap, and no
  * pointer is null, also where its count is 0.
  *
@@ -31,7 +31,7 @@
  * - It fits a label for a record with propolisk_label_fit (propolisk_primitives.h) before it programs or transfers it: octet counts and character
  *   counts never stand in for each other.
  *
- * Stack, measured in octets below the caller (examples/call_stack.c): octet 2,288, the requests under 2,100, gap and session_end under 1,350,
+ * Stack, measured in octets below the caller (examples/call_stack.c): octet 3,080, the requests under 2,700, gap and session_end under 1,050,
  * new 24. */
 #ifndef PROPOLISK_TOOL_H
 #define PROPOLISK_TOOL_H
