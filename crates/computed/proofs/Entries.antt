@@ -1,16 +1,10 @@
--- The exclusive or of entries of several tables, each taken by some bits of a word.
+-- Entries of tables, each taken by some bits of a word.
 -- Assumes nothing.
-use mathlib.Core.Path.{◌≡◌, ap, ap₂}
+use mathlib.Core.Path.{◌≡◌, ap}
 use mathlib.Core.List.{List}
 use Prim.Native.Nat.{ℕ, ◌/◌, ◌%◌, ◌^◌}
 use native.Mathlib.Omega.{arith}
-use lib.Bits.{bit_xor}
 use lib.ListN.{get_or}
-
--- one entry more
-infixl 40 ◌with◌
-pub ◌with◌ : {a b x y : ℕ} → a ≡ x → b ≡ y → bit_xor a b ≡ bit_xor x y
-p with q = ap₂ bit_xor p q
 
 -- the lowest bits are taken without a shift
 pub unshifted : (table : List ℕ) (n w : ℕ) → get_or table (w % n) 0 ≡ get_or table (w / 2 ^ 0 % n) 0

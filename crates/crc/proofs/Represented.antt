@@ -1,7 +1,7 @@
 -- A word and a parity represent octets: the check key is found from them, and they are added to those of octets that follow. Every step of
 -- specs/Residues keeps exclusive or, so a law of words holds if it holds at the single bits, which antt computes.
 -- Assumes nothing.
-use mathlib.Core.Path.{◌≡◌, refl, sym, ap, ap₂, subst, ◌∙◌}
+use mathlib.Core.Path.{◌≡◌, refl, sym, ap, ap₂, ◌∙◌}
 use mathlib.Core.Bool.{Bool, true, false, xor}
 use mathlib.Core.List.{List, [], ◌∷◌, ◌++◌, reverse}
 use Prim.Native.Nat.{ℕ, ◌+◌, ◌-◌, ◌*◌, ◌^◌, ◌≤◌, ◌<◌}
@@ -9,8 +9,8 @@ use native.Mathlib.Numerals.{add-one}
 use native.Mathlib.Omega.{arith}
 use lib.Bits.{bit_xor, xor_lt}
 use lib.Dec.{T}
-use lib.ListN.{length, take, drop, get_or, replicate, length-drop}
-use lib.Seq.{length-take-le, take-add, drop-cons}
+use lib.ListN.{length, drop, get_or, replicate, length-drop}
+use lib.Seq.{drop-cons}
 use Rattle.computed.specs.Steps.{Steps, value}
 use Rattle.computed.specs.Steps.{left}
 use Rattle.computed.proofs.Tests.{below, at}
@@ -87,16 +87,15 @@ pub sixteen_octets : Moves (16 * 8) (moved 16 8)
 unfolding remainder_of remainder reduce step plus xor bits number
 sixteen_octets = record { word = tt; parity = tt }
 
--- the n octets from i on
-pub next_octets : (n : ℕ) {on : Steps} → Moves (n * 8) on → (s : List ℕ) (i k : ℕ) → k ≡ n → i + n ≤ length s → {v p w q a : ℕ}
-    → Represent v p (take i s) → Represent w q (take k (drop i s)) → a ≡ value on v → a < 2 ^ 64 → Represent (bit_xor a w) (bit_xor p q) (take (i + n) s)
+-- n octets after those before them
+pub next_octets : (n : ℕ) {on : Steps} → Moves (n * 8) on → (s t : List ℕ) → length t ≡ n → {v p w q a : ℕ}
+    → Represent v p s → Represent w q t → a ≡ value on v → a < 2 ^ 64 → Represent (bit_xor a w) (bit_xor p q) (s ++ t)
 unfolding check_key_of
-next_octets n {on} m s i k z l {v} {p} {w} {q} {a} h g e b =
-    subst (Represent (bit_xor a w) (bit_xor p q)) (sym (ap (λ (x : ℕ). take (i + x) s) (sym z) ∙ take-add i k s))
-    (followed (take i s) (take k (drop i s)) n (length-take-le k (drop i s) (rw length-drop (omega arith)) ∙ z) b h.parity_fits
+next_octets n {on} m s t l {v} {p} {w} {q} {a} h g e b =
+    followed s t n l b h.parity_fits
     (ap (λ (x : ℕ). check_key_of x p) e
     ∙ ap₂ bit_xor
     (agree (after (Additive-value on) (Additive-value of_word)) (after (Additive-value of_word) (Additive-remainder_of (n * 8))) 64 m.word v h.word_fits)
     (agree (Additive-value of_parity) (after (Additive-value of_parity) (Additive-remainder_of (n * 8))) 64 m.parity p h.parity_fits)
     ∙ sym ((Additive-remainder_of (n * 8)).law (value of_word v) (value of_parity p)) ∙ ap (remainder_of (n * 8)) h.same_check_key)
-    g)
+    g

@@ -5,6 +5,8 @@ ghost use Rattle.crc.specs.AnnexE.{check_key, divides};
 
 mod residues;
 
+use residues::Residues;
+
 // The octets of a turn.
 const TURN: usize = 16;
 
@@ -13,15 +15,15 @@ const TURN: usize = 16;
 pub fn check_key(s: &[u8]) -> u16
     ensures { result ≡ check_key s.now }
 {
-    let mut i = s.len() % TURN;
-    let start = residues::residues_of(&s[..i]);
-    let mut word = start.word;
-    let mut parity = start.parity;
-    while i < s.len() {
-        let next = residues::residues_of(&s[i..i + TURN]);
+    let (start, turns) = s.split_at(s.len() % TURN);
+    let Residues {
+        mut word,
+        mut parity,
+    } = residues::residues_of(start);
+    for turn in turns.chunks_exact(TURN) {
+        let next = residues::residues_of(turn);
         word = residues::moved(word, 16, 8) ^ next.word;
-        parity = parity ^ next.parity;
-        i += TURN;
+        parity ^= next.parity;
     }
     residues::check_key_of(word, parity)
 }

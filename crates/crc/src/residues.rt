@@ -16,10 +16,8 @@ fn word_of(s: &[u8]) -> u64
     ensures { Represent result result s.now }
 {
     let mut word: u64 = 0;
-    let mut i = 0;
-    while i < s.len() {
-        word = word ^ (octets::wide(s[i]) << (64 - 8 * (s.len() - i)));
-        i += 1;
+    for (i, octet) in s.iter().enumerate() {
+        word ^= u64::from(*octet) << (64 - 8 * (s.len() - i));
     }
     word
 }
@@ -49,14 +47,11 @@ pub(crate) fn residues_of(s: &[u8]) -> Residues
 {
     if s.len() <= 8 {
         let word = word_of(s);
-        return Residues {
-            word: word,
-            parity: word,
-        };
+        return Residues { word, parity: word };
     }
-    let at = s.len() - 8;
-    let first = word_of(&s[..at]);
-    let last = word_of(&s[at..]);
+    let (first, last) = s.split_at(s.len() - 8);
+    let first = word_of(first);
+    let last = word_of(last);
     Residues {
         word: moved(first, 8, 4) ^ last,
         parity: first ^ last,

@@ -2,7 +2,7 @@
 -- Assumes nothing.
 use mathlib.Core.Path.{◌≡◌, refl, ap, ap₂, sym, ◌∙◌}
 use mathlib.Core.List.{List, [], ◌∷◌, ◌++◌, append-nil, flat_map}
-use Prim.Native.Nat.{ℕ, ◌+◌, ◌-◌, ◌*◌, ◌/◌, ◌%◌, ◌^◌, ◌<◌, ◌≤◌}
+use Prim.Native.Nat.{ℕ, zero, suc, ◌+◌, ◌-◌, ◌*◌, ◌/◌, ◌%◌, ◌^◌, ◌<◌, ◌≤◌}
 use native.Mathlib.Nat.{mod-lt, lt_of_lt_of_le, zero-add}
 use native.Mathlib.Numerals.{add-one}
 use native.Mathlib.Omega.{arith}
@@ -10,7 +10,8 @@ use lib.Arith.{digits_lt}
 use lib.Bits.{bit_xor, xor_lt}
 use lib.ListN.{length, get_or, take, drop, length-drop}
 use lib.Pow.{pow-add, pow_pos, pow_mono, shr_lt}
-use lib.Seq.{take-suc, drop-append-le, take-append-add}
+use lib.Seq.{take_all, take-suc, drop-append-le, take-append-add}
+use Rattle.std.specs.Int.{w64, from_be_bytes}
 use Rattle.des.specs.Des.{bits_of, bits, ◌⊕◌, left_shift}
 use Rattle.des.specs.Words.{Word}
 use Rattle.des.proofs.Strings.{part_bits_of, bits_append, bits_of_join, bits_of_mod, take-bits_of, drop-bits_of, bits_of_xor}
@@ -58,6 +59,22 @@ octet_more o i acc h l p =
     let more : bits (take (i + 1) o) ≡ bits (take i o) ++ bits_of 8 x =
     ap bits (ap (λ (n : ℕ). take n o) (add-one i) ∙ take-suc o i 0 h) ∙ bits_append (take i o) (x ∷ []) ∙ ap (λ (b : List ℕ). bits (take i o) ++ b) (append-nil (bits_of 8 x)) in
     rw (← e, more) (joined p (itself 8 x l))
+
+-- n octets, each after the others
+horner : List ℕ → ℕ → ℕ
+horner o zero = 0
+horner o (suc n) = horner o n * 256 + get_or o n 0
+
+horner_held : (o : List ℕ) → ((i : ℕ) → get_or o i 0 < 256) → (n : ℕ) → n ≤ length o → Word (8 * n) (bits (take n o)) (horner o n)
+unfolding horner bits flat_map bits_of
+horner_held o h zero k = record { small = omega arith; same = refl }
+horner_held o h (suc n) k = rw add-one at (octet_more o n (horner o n) k (h n) (horner_held o h n (omega arith)))
+
+pub eight_octets : (o : List ℕ) → length o ≡ 8 → ((i : ℕ) → get_or o i 0 < 256) → Word 64 (bits o) (from_be_bytes w64 o)
+unfolding horner
+eight_octets o l h =
+    let e : horner o 8 ≡ from_be_bytes w64 o = omega arith in
+    rw (take_all 8 o (omega arith)) at (rw e at (horner_held o h 8 (omega arith)))
 
 -- 28 bits of a half that is held twice are the half after s left shifts
 pub shifted_half : (b : List ℕ) (s c : ℕ) → length b ≡ 28 → s ≤ 28 → Word 56 (b ++ b) c → Word 28 (left_shift s b) (c / 2 ^ (28 - s) % 2 ^ 28)

@@ -3,13 +3,14 @@
 use mathlib.Core.Path.{◌≡◌, refl, ap, ap₂, sym, ◌∙◌}
 use mathlib.Core.List.{List, [], ◌∷◌, ◌++◌, append_assoc, flat_map, zip_with}
 use Prim.Native.Nat.{ℕ, zero, suc, ◌+◌, ◌-◌, ◌*◌, ◌/◌, ◌%◌, ◌^◌, ◌<◌, ◌≤◌}
-use native.Mathlib.Nat.{mod-lt, mod-one, zero-add, suc-add, add_comm, mod-eq_of_lt, not-suc-le-zero, le_of_suc-le-suc}
+use native.Mathlib.Nat.{pow-suc, mod-lt, mod-one, zero-add, suc-add, add_comm, mod-eq_of_lt, not-suc-le-zero, le_of_suc-le-suc}
 use native.Mathlib.Omega.{arith}
 use lib.Arith.{digits_lt}
 use lib.Bits.{bit_xor, xor_shr, xor_mod}
 use lib.ListN.{length, get_or, take, drop, length-append, length-take, length-drop, take-append-drop}
 use lib.Pow.{pow-add, pow_mono, high, low, shr-shr, mod-pow-add, mod-mod-pow, field}
-use lib.Seq.{take_at, drop_at, drop-drop, length-take-le}
+use lib.Seq.{take_at, drop_at, length-take-le}
+use Rattle.std.specs.Int.{bytes_high_first, byte_at}
 use Rattle.des.specs.Des.{bits_of, number, bits, octets, permuted, ◌⊕◌}
 
 -- ---- the bits of a number
@@ -175,14 +176,22 @@ unfolding octets
 length-octets zero b = refl
 length-octets (suc n) b = ap suc (length-octets n (drop 8 b))
 
--- one octet more
-pub octets_more : (n : ℕ) (b : List ℕ) → octets (suc n) b ≡ octets n b ++ (number (take 8 (drop (8 * n) b)) ∷ [])
+-- the octets of a number are those of its bits
+pub octets-bits_of : (n w : ℕ) → bytes_high_first n w ≡ octets n (bits_of (8 * n) w)
 unfolding octets
-octets_more zero b = refl
-octets_more (suc n) b =
-    let e : 8 + 8 * n ≡ 8 * suc n = omega arith in
-    ap (λ (l : List ℕ). number (take 8 b) ∷ l)
-    (octets_more n (drop 8 b) ∙ ap (λ (l : List ℕ). octets n (drop 8 b) ++ (number (take 8 l) ∷ [])) (drop-drop (8 * n) 8 b ∙ ap (λ (k : ℕ). drop k b) e))
+octets-bits_of zero w = refl
+octets-bits_of (suc n) w =
+    let e : 8 * suc n ≡ 8 + 8 * n = omega arith in
+    let octet : byte_at n w ≡ number (take 8 (bits_of (8 + 8 * n) w)) = byte_is n ∙ sym (number-bits_of 8 (w / 2 ^ (8 * n))) ∙ ap number (sym (take-bits_of 8 (8 * n) w)) in
+    rw e (ap₂ (λ (x : ℕ) (l : List ℕ). x ∷ l) octet (octets-bits_of n w ∙ ap (octets n) (sym (drop-bits_of 8 (8 * n) w))))
+  where
+    place : (n : ℕ) → 256 ^ n ≡ 2 ^ (8 * n)
+    place zero = refl
+    place (suc n) = let e : 8 * suc n ≡ 8 * n + 8 = omega arith in rw (e, pow-add 2 (8 * n) 8, pow-suc 256 n, place n)
+
+    byte_is : (n : ℕ) → byte_at n w ≡ w / 2 ^ (8 * n) % 256
+    byte_is zero = omega arith
+    byte_is (suc n) = rw place
 
 -- eight octets become 64 bits and come back
 pub octets-bits : (o : List ℕ) → ((i : ℕ) → get_or o i 0 < 256) → octets (length o) (bits o) ≡ o

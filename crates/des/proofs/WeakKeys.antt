@@ -108,7 +108,7 @@ module _ (key : List ℕ) (long : length key ≡ 8) (octets : AreOctets key) whe
 
   -- a key whose C is one bit throughout, and whose D is, is weak: each choice of the two bits is that of a weak key
   bits-weak : (c d : ℕ) → c < 2 → d < 2 → key_halves key 0 ≡ replicate 28 c ++ replicate 28 d → weak key ≡ true
-  unfolding weak_keys weak without_parity same bits_of bits flat_map permuted PC1 key_halves
+  unfolding weak_keys weak without_parity bits_of bits flat_map permuted PC1 key_halves
   bits-weak zero zero h k e = halves_weak (get_or weak_keys 0 []) refl tt refl e
   bits-weak zero (suc zero) h k e = halves_weak (get_or weak_keys 3 []) refl tt refl e
   bits-weak (suc zero) zero h k e = halves_weak (get_or weak_keys 2 []) refl tt refl e
@@ -140,12 +140,12 @@ parity_turned key = map (λ o. o / 2 * 2 + (1 - o % 2)) key
 
 -- the weak keys are weak as they stand, and with every parity bit turned
 listed_weak : Each (λ w. (weak w ≡ true) × (weak (parity_turned w) ≡ true)) weak_keys
-unfolding weak_keys weak without_parity same parity_turned
+unfolding weak_keys weak without_parity parity_turned
 listed_weak = ((refl, refl), ((refl, refl), ((refl, refl), ((refl, refl), tt))))
 
 -- the key 0123456789ABCDEF is not weak, and a semi-weak key is not
 others_not_weak :
     (weak (0x01 ∷ 0x23 ∷ 0x45 ∷ 0x67 ∷ 0x89 ∷ 0xAB ∷ 0xCD ∷ 0xEF ∷ []) ≡ false)
     × (weak (0x01 ∷ 0xFE ∷ 0x01 ∷ 0xFE ∷ 0x01 ∷ 0xFE ∷ 0x01 ∷ 0xFE ∷ []) ≡ false)
-unfolding weak_keys weak without_parity same
+unfolding weak_keys weak without_parity
 others_not_weak = (refl, refl)

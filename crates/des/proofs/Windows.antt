@@ -63,13 +63,13 @@ drop_xor (suc n) (x ∷ a) (y ∷ b) = drop_xor n a b
 -- ---- the blocks of six of two tables, which antt compares
 
 window_blocks : (j : ℕ) → j < 8 → take 6 (drop (4 * j) wrapped) ≡ take 6 (drop (6 * j) E)
-unfolding E same
+unfolding E
 window_blocks j h =
     let test = at 8 (λ j. same (take 6 (drop (4 * j) wrapped)) (take 6 (drop (6 * j) E))) tt j h in
     same_equal (take 6 (drop (4 * j) wrapped)) (take 6 (drop (6 * j) E)) (passes (same (take 6 (drop (4 * j) wrapped)) (take 6 (drop (6 * j) E))) test)
 
 key_blocks : (j : ℕ) → j < 8 → take 6 (drop (58 - place j) gapped) ≡ take 6 (drop (6 * j) PC2)
-unfolding PC2 same
+unfolding PC2
 key_blocks j h =
     let test = at 8 (λ j. same (take 6 (drop (58 - place j) gapped)) (take 6 (drop (6 * j) PC2))) tt j h in
     same_equal (take 6 (drop (58 - place j) gapped)) (take 6 (drop (6 * j) PC2)) (passes (same (take 6 (drop (58 - place j) gapped)) (take 6 (drop (6 * j) PC2))) test)

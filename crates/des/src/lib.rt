@@ -16,7 +16,7 @@ ghost use Rattle.des.specs.Words.{Word, order};
 fn permuted_input(block: [u8; 8]) -> u64
     ensures { Word 64 (permuted IP (bits block)) result }
 {
-    permuting::initial(words::word(&block))
+    permuting::initial(words::word(block))
 }
 
 // The octets of the preoutput block, permuted by the inverse of IP.
@@ -31,7 +31,7 @@ fn computation(deciphering: bool, key: [u8; 8], block: [u8; 8]) -> [u8; 8]
     ensures { result ≡ computation (λ n. round_key key (order deciphering n)) block }
 {
     let lr = permuted_input(block);
-    output(rounds::rounds(deciphering, &key, lr))
+    output(rounds::rounds(deciphering, key, lr))
 }
 
 // The block enciphered under the key.

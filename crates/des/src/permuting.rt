@@ -31,6 +31,7 @@ pub(crate) fn initial(w: u64) -> u64
 }
 
 // The inverse of IP: the same exchanges in the reverse order.
+// Written out: a fold over a table of pairs, read forwards and backwards, is no plainer than two times five lines.
 pub(crate) fn inverse_initial(w: u64) -> u64
     ensures { Word 64 (permuted inverse_ip (bits_of 64 w)) result }
 {

@@ -1,5 +1,5 @@
 // The rounds, on a block LR in one word of 64 bits.
-ghost use Rattle.std.specs.Prelude.{◌≡◌, List, ℕ, ◌^◌, ◌<◌, length};
+ghost use Rattle.std.specs.Prelude.{◌≡◌, List, ℕ, ◌^◌, ◌<◌};
 ghost use Rattle.des.specs.Des.{bits_of, permuted, f, rounds, exchanged, round_key};
 ghost use Rattle.des.specs.Words.{Word, order};
 ghost use Rattle.des.specs.Windows.{wrapped, WithGaps};
@@ -30,19 +30,16 @@ fn f(r: u64, k: u64) -> u64
 }
 
 // Sixteen rounds. Each makes its own round key, so one round key is held at a time.
-pub(crate) fn rounds(deciphering: bool, key: &[u8], input: u64) -> u64
-    requires { length key.now ≡ 8 }
-    ensures { Word 64 (rounds (λ n. round_key key.now (order deciphering n)) 16 (bits_of 64 input)) result }
+pub(crate) fn rounds(deciphering: bool, key: [u8; 8], input: u64) -> u64
+    ensures { Word 64 (rounds (λ n. round_key key (order deciphering n)) 16 (bits_of 64 input)) result }
 {
     let cd = schedule::key_halves(key);
     let c = schedule::twice(cd / schedule::KEY_HALF);
     let d = schedule::twice(cd % schedule::KEY_HALF);
     let mut l = input / BLOCK_HALF;
     let mut r = input % BLOCK_HALF;
-    let mut n = 0;
-    while n < 16 {
-        n += 1;
-        let k = schedule::round_key(deciphering, n, c, d);
+    for n in 0..16 {
+        let k = schedule::round_key(deciphering, n + 1, c, d);
         let next = l ^ f(r, k);
         l = r;
         r = next;

@@ -1,6 +1,6 @@
 // The key schedule KS. C0 and D0 are held twice each, one after the other in a word, so that 28 bits of the word are the half after any number of
 // left shifts.
-ghost use Rattle.std.specs.Prelude.{◌≡◌, List, ◌++◌, ℕ, ◌^◌, ◌≤◌, ◌<◌, length, get_or};
+ghost use Rattle.std.specs.Prelude.{◌≡◌, List, ◌++◌, ℕ, ◌^◌, ◌≤◌, ◌<◌, get_or};
 ghost use Rattle.des.specs.Des.{both_shifted, key_halves};
 ghost use Rattle.des.specs.Words.{Word, HalvesHeld, KeyHeld, shifts_up_to, order};
 
@@ -10,9 +10,8 @@ use crate::{permuting, words};
 pub(crate) const KEY_HALF: u64 = 0x10000000;
 
 // C0 and D0.
-pub(crate) fn key_halves(key: &[u8]) -> u64
-    requires { length key.now ≡ 8 }
-    ensures { Word 56 (key_halves key.now 0) result }
+pub(crate) fn key_halves(key: [u8; 8]) -> u64
+    ensures { Word 56 (key_halves key 0) result }
 {
     permuting::choice_1(words::word(key))
 }
@@ -25,7 +24,7 @@ pub(crate) fn twice(half: u64) -> u64
     half * KEY_HALF + half
 }
 
-// The left shifts of C and D up to round n.
+// The left shifts of C and D up to round n. A match: with a static table a block took one part in a hundred more time, and more stack.
 fn shifts_up_to(n: u64) -> u64
     requires { n < 17 }
     ensures { result ≡ get_or shifts_up_to n 0 }

@@ -10,6 +10,11 @@ use lib.Dec.{leb}
 use lib.ListN.{length, take, drop, get_or, length-drop, length-append}
 use lib.Seq.{length-take-le, get_or-take, get_or-drop, drop_at, take-append_seam, take-add, drop-cons, drop-drop, take_all, ext_get_or}
 use borrow.Author.Tests.{le-leb, lt-leb}
+use Rattle.std.specs.Option.{unwrap_or}
+use Rattle.std.specs.Prelude.{Option, None, Some}
+use Rattle.std.specs.Slice.{IsGetRangeResult}
+use Rattle.std.specs.Borrow.{Bor}
+use Rattle.std.proofs.Common.{inl, inr}
 use Rattle.octets.specs.Part.{part_of}
 
 pub part_there : (s : List ℕ) (a e : ℕ) → e ≤ length s → part_of s a e ≡ take (e - a) (drop a s)
@@ -29,6 +34,12 @@ part_none s a e h =
     either : (t : Bool) → ◌≡◌ {A = List ℕ} (cond t [] []) []
     either true = refl
     either false = refl
+
+-- what `get` gives at a range, with a list that is empty where it gives nothing
+pub part_got : (s : List ℕ) (a e : ℕ) (r : Option (Bor (List ℕ))) (d : Bor (List ℕ)) → d.now ≡ [] → IsGetRangeResult s a e r → (unwrap_or r d).now ≡ part_of s a e
+part_got s a e None d z (inl h, _) = z ∙ sym (part_none s a e (omega arith))
+part_got s a e None d z (inr h, _) = z ∙ sym (part_past s a e h)
+part_got s a e (Some x) d z (h, _) = h.2 ∙ sym (part_there s a e h.1)
 
 pub length_part : (s : List ℕ) (a e : ℕ) → a ≤ e → e ≤ length s → length (part_of s a e) ≡ e - a
 length_part s a e h k = rw (part_there s a e k) (length-take-le (e - a) (drop a s) (rw length-drop (omega arith)))

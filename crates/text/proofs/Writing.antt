@@ -5,9 +5,9 @@ use mathlib.Core.List.{List, ◌++◌}
 use native.Mathlib.Omega.{arith}
 use lib.ListN.{length, length-append}
 use borrow.Author.Tests.{le-leb, lt-leb}
-use Rattle.octets.specs.Splice.{spliced}
 use Rattle.octets.proofs.Splice.{spliced_past, spliced_after, length-spliced}
 use Rattle.text.specs.Text.{offset_after}
+pub use Rattle.text.specs.Text.{Written}
 
 pub after_fits : (m : List ℕ) (at : ℕ) (s : List ℕ) → at + length s ≤ length m → offset_after m at s ≡ at + length s
 unfolding offset_after
@@ -16,10 +16,6 @@ after_fits m at s h = rw (le-leb (at + length s) (length m) h)
 pub after_past : (m : List ℕ) (at : ℕ) (s : List ℕ) → length m < at + length s → offset_after m at s ≡ at
 unfolding offset_after
 after_past m at s h = rw (lt-leb (at + length s) (length m) h)
-
--- what a call that writes s gives and leaves
-abbrev pub Written : List ℕ → ℕ → List ℕ → ℕ → List ℕ → Type 0
-Written m at s r b = (r ≡ offset_after m at s) × (b ≡ spliced m at s)
 
 -- a text that does not fit is not written
 pub unwritten : (m : List ℕ) (at : ℕ) (s : List ℕ) → length m < at + length s → Written m at s at m

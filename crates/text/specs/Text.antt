@@ -1,5 +1,6 @@
 -- Octets and numbers as text, and where a text ends that is written into a buffer.
-use Rattle.std.specs.Prelude.{ℕ, zero, suc, ◌+◌, ◌/◌, ◌%◌, List, [], ◌∷◌, ◌++◌, cond, length, leb, ltb}
+use Rattle.std.specs.Prelude.{◌≡◌, ℕ, zero, suc, ◌+◌, ◌/◌, ◌%◌, List, [], ◌∷◌, ◌++◌, cond, length, leb, ltb}
+use Rattle.octets.specs.Splice.{spliced}
 
 -- 01, Swap file, prints the octet 0A as `0A`: a hexadecimal digit is `0` to `9`, then `A` to `F`
 unfoldable pub digit_of : ℕ → ℕ
@@ -22,3 +23,7 @@ decimal_text n = decimal 19 n
 -- the offset after a text s that is written from offset at on; at itself where s does not fit
 unfoldable pub offset_after : List ℕ → ℕ → List ℕ → ℕ
 offset_after m at s = cond (leb (at + length s) (length m)) (at + length s) at
+
+-- what a call that writes s into m gives and leaves: the offset after s, and s over the octets of m
+abbrev pub Written : List ℕ → ℕ → List ℕ → ℕ → List ℕ → Type 0
+Written m at s end left = (end ≡ offset_after m at s) × (left ≡ spliced m at s)

@@ -2,8 +2,7 @@
 // Text written into a lent buffer from an offset on: words, octets in hexadecimal digits, numbers in decimal digits. Each call gives the offset after
 // what it wrote; where the text does not fit, it leaves the buffer and gives the offset as it was.
 ghost use Rattle.std.specs.Prelude.{◌≡◌, ◌++◌, ◌+◌, ◌*◌, ◌≤◌, ◌<◌, length, drop};
-ghost use Rattle.octets.specs.Splice.{spliced};
-ghost use Rattle.text.specs.Text.{digit_of, hex_text, decimal_text, offset_after};
+ghost use Rattle.text.specs.Text.{digit_of, hex_text, decimal_text, Written};
 
 use numbers::Octets;
 
@@ -12,35 +11,55 @@ use numbers::Octets;
 struct Decimal {
     digits: [u8; 20],
     from: usize,
+    ghost within: { from ≤ 20 },
+}
+
+impl Decimal {
+    // Laid from the last digit on.
+    // No range: it goes on until the number is used up.
+    fn of(n: u64) -> Decimal
+        ensures { drop result.from result.digits ≡ decimal_text n }
+    {
+        let mut digits = [0u8; 20];
+        let mut from = 20;
+        let mut rest = n;
+        while 10 <= rest {
+            from -= 1;
+            digits[from] = b'0' + (rest % 10) as u8;
+            rest /= 10;
+        }
+        from -= 1;
+        digits[from] = b'0' + rest as u8;
+        Decimal { digits, from }
+    }
+
+    fn text(&self) -> &[u8]
+        ensures { result.now ≡ drop self.now.from self.now.digits }
+    {
+        &self.digits[self.from..]
+    }
 }
 
 // Words.
 pub fn put_words(buffer: &mut [u8], at: Octets, words: &[u8]) -> Octets
-    ensures { (result.0 ≡ offset_after buffer.old at.0 words.now) × (buffer.new ≡ spliced buffer.old at.0 words.now) }
+    ensures { Written buffer.old at.0 words.now result.0 buffer.new }
 {
-    if buffer.len() < words.len() {
-        return at;
-    }
-    if buffer.len() - words.len() < at.0 {
+    if buffer.len() < words.len() || buffer.len() - words.len() < at.0 {
         return at;
     }
     octets::put(buffer, at.0, words);
-    let end = at.0 + words.len();
-    Octets(end)
+    Octets(at.0 + words.len())
 }
 
 // Words, and the hexadecimal digits of octets after them.
 pub fn put_hex(buffer: &mut [u8], at: Octets, words: &[u8], octets: &[u8]) -> Octets
-    ensures { (result.0 ≡ offset_after buffer.old at.0 (words.now ++ hex_text octets.now)) × (buffer.new ≡ spliced buffer.old at.0 (words.now ++ hex_text octets.now)) }
+    ensures { Written buffer.old at.0 (words.now ++ hex_text octets.now) result.0 buffer.new }
 {
     if buffer.len() < words.len() {
         return at;
     }
     let room = buffer.len() - words.len();
-    if room < at.0 {
-        return at;
-    }
-    if (room - at.0) / 2 < octets.len() {
+    if room < at.0 || (room - at.0) / 2 < octets.len() {
         return at;
     }
     let next = put_words(buffer, at, words);
@@ -49,26 +68,20 @@ pub fn put_hex(buffer: &mut [u8], at: Octets, words: &[u8], octets: &[u8]) -> Oc
 
 // Words, and a number after them.
 pub fn put_number(buffer: &mut [u8], at: Octets, words: &[u8], n: u64) -> Octets
-    ensures { (result.0 ≡ offset_after buffer.old at.0 (words.now ++ decimal_text n)) × (buffer.new ≡ spliced buffer.old at.0 (words.now ++ decimal_text n)) }
+    ensures { Written buffer.old at.0 (words.now ++ decimal_text n) result.0 buffer.new }
 {
-    let decimal = decimal_of(n);
-    let digits = decimal.digits;
-    let from = decimal.from;
-    put_both(buffer, at, words, &digits[from..])
+    put_both(buffer, at, words, Decimal::of(n).text())
 }
 
 // Words, and other words after them.
 fn put_both(buffer: &mut [u8], at: Octets, first: &[u8], second: &[u8]) -> Octets
-    ensures { (result.0 ≡ offset_after buffer.old at.0 (first.now ++ second.now)) × (buffer.new ≡ spliced buffer.old at.0 (first.now ++ second.now)) }
+    ensures { Written buffer.old at.0 (first.now ++ second.now) result.0 buffer.new }
 {
     if buffer.len() < first.len() {
         return at;
     }
     let room = buffer.len() - first.len();
-    if room < second.len() {
-        return at;
-    }
-    if room - second.len() < at.0 {
+    if room < second.len() || room - second.len() < at.0 {
         return at;
     }
     let next = put_words(buffer, at, first);
@@ -78,15 +91,12 @@ fn put_both(buffer: &mut [u8], at: Octets, first: &[u8], second: &[u8]) -> Octet
 // Two digits for each octet, where they fit.
 fn put_digits(buffer: &mut [u8], at: Octets, octets: &[u8]) -> Octets
     requires { at.0 + 2 * length octets.now ≤ length buffer.old }
-    ensures { (result.0 ≡ offset_after buffer.old at.0 (hex_text octets.now)) × (buffer.new ≡ spliced buffer.old at.0 (hex_text octets.now)) }
+    ensures { Written buffer.old at.0 (hex_text octets.now) result.0 buffer.new }
 {
     let mut next = at.0;
-    let mut i = 0;
-    while i < octets.len() {
-        let octet = octets[i];
+    for octet in octets {
         octets::put(buffer, next, &[digit(octet / 16), digit(octet % 16)]);
         next += 2;
-        i += 1;
     }
     Octets(next)
 }
@@ -96,25 +106,5 @@ fn digit(n: u8) -> u8
     requires { n < 16 }
     ensures { result ≡ digit_of n }
 {
-    if n < 10 { 48 + n } else { 55 + n }
-}
-
-// The digits of a number, the last one first.
-fn decimal_of(n: u64) -> Decimal
-    ensures { (20 ≡ length result.digits) × ((result.from ≤ 20) × (drop result.from result.digits ≡ decimal_text n)) }
-{
-    let mut digits = [0u8; 20];
-    let mut from = 20;
-    let mut rest = n;
-    while 10 <= rest {
-        from -= 1;
-        digits[from] = 48 + (rest % 10) as u8;
-        rest /= 10;
-    }
-    from -= 1;
-    digits[from] = 48 + rest as u8;
-    Decimal {
-        digits: digits,
-        from: from,
-    }
+    if n < 10 { b'0' + n } else { b'A' + (n - 10) }
 }

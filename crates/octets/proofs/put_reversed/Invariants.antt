@@ -1,12 +1,7 @@
 -- `octets::put_reversed` meets its contract: the loop of `put` over the reversed list, whose i-th octet is read from the end of src.
-use Prim.Native.Nat.{◌-◌}
 use mathlib.Core.List.{reverse}
-use lib.ListN.{length}
 use Rattle.octets.proofs.Laying.{Laying}
 use Rattle.octets.proofs.put_reversed.Given as goal
 
 abbrev pub invariant-loop-i : goal.invariant-loop-i
 invariant-loop-i l = Laying l.initial.dst l.at (reverse l.src) l.dst l.i
-
-abbrev pub decreases-loop-i : goal.decreases-loop-i
-decreases-loop-i l = length l.src - l.i

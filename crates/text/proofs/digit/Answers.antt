@@ -1,4 +1,5 @@
 -- `digit` meets its contract: one case below ten, one from ten on.
+use native.Mathlib.Omega.{arith}
 use borrow.Author.Tests.{lt-ltb, le-ltb}
 use Rattle.text.specs.Text.{digit_of}
 use Rattle.text.proofs.digit.Goals as goal
@@ -9,4 +10,4 @@ returns-then-n-lt10 c = rw (lt-ltb _ 10 c.if-n-lt10.true)
 
 pub returns-else-n-lt10 : goal.returns-else-n-lt10
 unfolding digit_of
-returns-else-n-lt10 c = rw (le-ltb _ 10 c.if-n-lt10.false)
+returns-else-n-lt10 c = rw (le-ltb c.args.n 10 c.if-n-lt10.false) (omega arith)

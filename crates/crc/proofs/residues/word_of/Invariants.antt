@@ -1,14 +1,10 @@
 -- `crc::residues::word_of` meets its contract. The loop's invariant: the sum of the word and of any that represents the octets left represents all.
--- The measure is what is left of the length.
 -- Assumes nothing.
-use Prim.Native.Nat.{ℕ, ◌-◌, ◌≤◌}
+use Prim.Native.Nat.{ℕ}
 use lib.Bits.{bit_xor}
-use lib.ListN.{length, drop}
+use lib.ListN.{drop}
 use Rattle.crc.specs.Residues.{Represent}
 use Rattle.crc.proofs.residues.word_of.Given as goal
 
 abbrev pub invariant-loop-i : goal.invariant-loop-i
-invariant-loop-i l = (l.i ≤ length l.s) × ((x : ℕ) → Represent x x (drop l.i l.s) → Represent (bit_xor l.word x) (bit_xor l.word x) l.s)
-
-abbrev pub decreases-loop-i : goal.decreases-loop-i
-decreases-loop-i l = length l.s - l.i
+invariant-loop-i l = (x : ℕ) → Represent x x (drop l.i l.s) → Represent (bit_xor l.word x) (bit_xor l.word x) l.s

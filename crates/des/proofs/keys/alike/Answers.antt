@@ -3,4 +3,4 @@
 use Rattle.des.proofs.keys.alike.Goals as goal
 
 pub returns : goal.returns
-returns c = rw (c.equal.ensures, c.without_parity-2.ensures, c.without_parity.ensures)
+returns c = rw (c.eq.ensures, c.without_parity-2.ensures, c.without_parity.ensures)

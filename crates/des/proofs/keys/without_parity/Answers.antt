@@ -1,25 +1,21 @@
--- `keys::without_parity` meets its contract: the eight octets of a key, each halved, are all that it has.
+-- `keys::without_parity` meets its contract: the eight octets of a key, each halved.
 -- Assumes nothing.
-use mathlib.Core.Path.{◌≡◌, refl, ap}
-use mathlib.Core.List.{List, [], ◌∷◌}
-use Prim.Native.Nat.{ℕ, zero, suc, ◌/◌}
+use mathlib.Core.Path.{◌≡◌, refl, ap₂}
+use mathlib.Core.List.{List, [], ◌∷◌, map}
+use Prim.Native.Nat.{ℕ, suc, ◌/◌, ◌<◌}
 use native.Mathlib.Omega.{arith}
 use lib.ListN.{length, get_or}
-use borrow.Author.Rules.{rules}
+use Rattle.std.proofs.Common.{rules}
 use Rattle.des.specs.WeakKeys.{without_parity}
 use Rattle.des.proofs.keys.without_parity.Goals as goal
 
--- the first n values of f, each halved
-abbrev halved : ℕ → (ℕ → ℕ) → List ℕ
-halved zero f = []
-halved (suc n) f = f 0 / 2 ∷ halved n (λ i. f (suc i))
-
-halved_all : (n : ℕ) (s : List ℕ) → length s ≡ n → halved n (λ i. get_or s i 0) ≡ without_parity s
-unfolding without_parity
-halved_all zero [] e = refl
-halved_all zero (x ∷ s) e = absurd (omega arith)
-halved_all (suc n) [] e = absurd (omega arith)
-halved_all (suc n) (x ∷ s) e = ap (λ (t : List ℕ). x / 2 ∷ t) (halved_all n s (omega arith))
+halved : (s t : List ℕ) → length t ≡ length s → ((i : ℕ) → i < length s → get_or t i 0 ≡ get_or s i 0 / 2) → t ≡ map (λ o. o / 2) s
+halved [] [] e h = refl
+halved [] (y ∷ t) e h = absurd (omega arith)
+halved (x ∷ s) [] e h = absurd (omega arith)
+halved (x ∷ s) (y ∷ t) e h = ap₂ (λ (o : ℕ) (os : List ℕ). o ∷ os) (h 0 (omega arith)) (halved s t (omega arith) (λ i k. h (suc i) (omega arith)))
 
 pub returns : goal.returns
-returns c = halved_all 8 _ (search rules)
+unfolding without_parity
+returns c = let each = c.map.ensures.items in
+    halved c.args.key c.map.result (omega arith) (λ i k. let called = each.at i 0 0 (omega arith) in search (rules, called))

@@ -15,20 +15,17 @@ use Rattle.des.proofs.rounds.rounds.Goals as goal
 -- in round n + 1 the one round key in hand is the round's own
 key_in_hand : (c : After-round_key-k)
     → let a = c.args in
-    KeyHeld a.key.now a.deciphering (c.loop-n.n + 1) c.round_key-k.result
-key_in_hand c = c.round_key-k.ensures c.args.key.now c.loop-n.invariant.1
+    KeyHeld a.key a.deciphering (c.loop-n.n + 1) c.round_key-k.result
+key_in_hand c = c.round_key-k.ensures c.args.key c.loop-n.invariant.0
 
 -- LR after sixteen rounds
 whole : (c : After-loop-n)
     → let a = c.args in
-    Word 64 (rounds (λ i. round_key a.key.now (order a.deciphering i)) 16 (bits_of 64 a.input)) (c.loop-n.l * 2 ^ 32 + c.loop-n.r)
+    Word 64 (rounds (λ i. round_key a.key (order a.deciphering i)) 16 (bits_of 64 a.input)) (c.loop-n.l * 2 ^ 32 + c.loop-n.r)
 whole c =
     let l = c.loop-n in
     let e : l.n ≡ 16 = omega arith in
-    together _ l.l l.r (rw e at l.invariant.2)
-
-pub key_halves-cd-requires : goal.key_halves-cd-requires
-key_halves-cd-requires c = c.requires
+    together _ l.l l.r (rw e at l.invariant.1)
 
 pub twice-c-requires : goal.twice-c-requires
 twice-c-requires c = (upper 28 28 c.key_halves-cd.ensures).small
@@ -40,32 +37,21 @@ pub loop-n-init : goal.loop-n-init
 unfolding rounds
 loop-n-init c = let s = c in
     let h = c.key_halves-cd.ensures in (
-      omega arith,
       record { first = c.twice-c.ensures _ (upper 28 28 h); second = c.twice-d.ensures _ (lower 28 28 h) },
       apart s.args.input s.ranges.input.fits,
     )
 
-pub overflow_add-n : goal.overflow_add-n
-overflow_add-n c = omega arith
-
-pub round_key-k-requires : goal.round_key-k-requires
-round_key-k-requires c = (omega arith, omega arith)
-
 pub f-requires : goal.f-requires
-f-requires c = c.loop-n.invariant.2.right.small
-
-pub loop-n-smaller : goal.loop-n-smaller
-loop-n-smaller c = omega arith
+f-requires c = c.loop-n.invariant.1.right.small
 
 pub loop-n-preserved : goal.loop-n-preserved
 loop-n-preserved c = let a = c.args in
     let l = c.loop-n in
-    let K : ℕ → List ℕ = λ i. round_key a.key.now (order a.deciphering i) in
+    let K : ℕ → List ℕ = λ i. round_key a.key (order a.deciphering i) in
     let x = rounds K l.n (bits_of 64 a.input) in
-    let h = l.invariant.2 in
+    let h = l.invariant.1 in
     let v = rw h.right.same at (c.f.ensures (K (l.n + 1)) (key_in_hand (goal.at.loop-n-preserved c).After-round_key-k)) in (
-      omega arith,
-      l.invariant.1,
+      l.invariant.0,
       rw (rounds_more K (bits_of 64 a.input) l.n) at (round_apart (K (l.n + 1)) x l.l l.r c.f.result h v),
     )
 
