@@ -8,8 +8,9 @@ use lib.ListN.{length, take}
 use lib.Seq.{length-take-le}
 use Rattle.numbers.specs.declared.Octets.{Octets}
 use Rattle.numbers.specs.declared.Characters.{Characters}
-use Rattle.label.specs.declared.Fitting.{Fitting}
-use Rattle.label.specs.declared.Fitting.TheVariants as fitting
+use Rattle.std.specs.Prelude.{Result, Ok, Err}
+use Rattle.label.specs.declared.IllFormed.{IllFormed}
+use Rattle.label.specs.declared.Counts.{Counts}
 use Rattle.label.specs.Utf8.{well_formed_octets, well_formed}
 use Rattle.label.specs.Character.{characters}
 use Rattle.numbers.specs.Table.{ill_formed}
@@ -120,6 +121,6 @@ module _ (label : List ℕ) (octets : Octets) (count : Characters) where
       judged-well_formed label (counts_of (kept_characters label octets count)) w ∙ rw (kept, whole)
 
 -- the front part that a fitting keeps is the kept part
-pub front_kept : (label : List ℕ) (octets : Octets) (count : Characters) (found : Fitting) → answer_of_fitting found ≡ fit_of label octets count → front_of label found ≡ kept_part label octets count
-front_kept label octets count (fitting.Kept o c) e = rw (fit_given label octets count (o, c) e).1 (sym (kept_front label octets count))
-front_kept label octets count (fitting.IllFormed at) e = sym (kept_ill_formed label octets count (fit_refused label octets count ill_formed at e).0)
+pub front_kept : (label : List ℕ) (octets : Octets) (count : Characters) (found : Result Counts IllFormed) → answer_of_fitting found ≡ fit_of label octets count → front_of label found ≡ kept_part label octets count
+front_kept label octets count (Ok kept) e = rw (fit_given label octets count (kept.octets, kept.characters) e).1 (sym (kept_front label octets count))
+front_kept label octets count (Err fault) e = sym (kept_ill_formed label octets count (fit_refused label octets count ill_formed fault.0 e).0)

@@ -1,5 +1,5 @@
 -- The sequence at a text's start: its row of the table is told by its first octet, and no octet after it matters.
-use mathlib.Core.Path.{◌≡◌, refl}
+use mathlib.Core.Path.{◌≡◌, refl, ◌∙◌}
 use mathlib.Core.Bool.{Bool, true, false, cond, ◌&&◌, false≢true}
 use mathlib.Core.List.{List, [], ◌∷◌}
 use Prim.Native.Nat.{ℕ, zero, suc, ◌+◌, ◌-◌, ◌≤◌, ◌<◌}
@@ -72,6 +72,14 @@ pub sequence_cut : (text : List ℕ) (at : ℕ) → at < length text → length 
 sequence_cut text at h cut =
     let short : begins (row_of (get_or text at 0)) (drop at text) ≡ false = begins_short _ (drop at text) (simp length-drop (omega arith)) in
     rw (drop-cons text at 0 h, sequence_of_lead) (rw (rw (drop-cons text at 0 h) at short))
+
+-- and no row, no sequence
+pub none_led : (text : List ℕ) (at : ℕ) → at < length text → length (row_of (get_or text at 0)) ≡ 0 → sequence_length (drop at text) ≡ 0
+none_led text at h e = sequence_from_lead text at h ∙ rw e (either _)
+  where
+    either : (b : Bool) → ◌≡◌ {A = ℕ} (cond b 0 0) 0
+    either true = refl
+    either false = refl
 
 module _ (row : List Range) (text : List ℕ) (i j : ℕ) (in_row : i < length row) (in_text : j < length text) where
   begins_next : begins (drop i row) (drop j text) ≡ in_range (get_or row i tail) (get_or text j 0) && begins (drop (i + 1) row) (drop (j + 1) text)

@@ -6,7 +6,7 @@ use mathlib.Core.Logic.{⊎_elim}
 use Prim.Native.Nat.{ℕ, zero, suc, ◌+◌, ◌-◌, ◌≤◌, ◌<◌}
 use native.Mathlib.Nat.{eq-or-lt_of_le, le_of_suc-le-suc}
 use native.Mathlib.Omega.{arith}
-use borrow.Author.Tests.{eqb-true}
+use borrow.Author.Tests.{eqb-true, lt-ltb, le-ltb}
 use lib.Dec.{ltb, eqb}
 use lib.ListN.{length, get_or, drop}
 use lib.Seq.{get_or-drop}
@@ -61,9 +61,27 @@ later_test : ℕ → Bool
 later_test lead = tails (drop 2 (row_of lead))
 
 module _ (lead : ℕ) (octet : lead < 256) where
-  pub row_length : length (row_of lead) ≡ cond (ltb lead 0x80) 1 (cond (ltb lead 0xC2) 0 (cond (ltb lead 0xE0) 2 (cond (ltb lead 0xF0) 3 (cond (ltb lead 0xF5) 4 0))))
+  row_length : length (row_of lead) ≡ cond (ltb lead 0x80) 1 (cond (ltb lead 0xC2) 0 (cond (ltb lead 0xE0) 2 (cond (ltb lead 0xF0) 3 (cond (ltb lead 0xF5) 4 0))))
   unfolding table begins row_among row_of every length_test
   row_length = eqb-true _ _ (below length_test 256 refl lead octet)
+
+  pub one_octet : lead < 0x80 → length (row_of lead) ≡ 1
+  one_octet h = rw (row_length, lt-ltb _ _ h)
+
+  pub none_between : 0x80 ≤ lead → lead < 0xC2 → length (row_of lead) ≡ 0
+  none_between low high = rw (row_length, le-ltb _ _ low, lt-ltb _ _ high)
+
+  pub two_octets : 0xC2 ≤ lead → lead < 0xE0 → length (row_of lead) ≡ 2
+  two_octets low high = rw (row_length, le-ltb lead 0x80 (omega arith), le-ltb _ _ low, lt-ltb _ _ high)
+
+  pub three_octets : 0xE0 ≤ lead → lead < 0xF0 → length (row_of lead) ≡ 3
+  three_octets low high = rw (row_length, le-ltb lead 0x80 (omega arith), le-ltb lead 0xC2 (omega arith), le-ltb _ _ low, lt-ltb _ _ high)
+
+  pub four_octets : 0xF0 ≤ lead → lead < 0xF5 → length (row_of lead) ≡ 4
+  four_octets low high = rw (row_length, le-ltb lead 0x80 (omega arith), le-ltb lead 0xC2 (omega arith), le-ltb lead 0xE0 (omega arith), le-ltb _ _ low, lt-ltb _ _ high)
+
+  pub none_above : 0xF5 ≤ lead → length (row_of lead) ≡ 0
+  none_above low = rw (row_length, le-ltb lead 0x80 (omega arith), le-ltb lead 0xC2 (omega arith), le-ltb lead 0xE0 (omega arith), le-ltb lead 0xF0 (omega arith), le-ltb _ _ low)
 
   pub second_least : (get_or (row_of lead) 1 tail).least ≡ cond (eqb lead 0xE0) 0xA0 (cond (eqb lead 0xF0) 0x90 0x80)
   unfolding table begins row_among row_of every least_test

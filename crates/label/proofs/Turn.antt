@@ -85,15 +85,15 @@ run_joins text (suc at) run sequence octets here joins = grouped_mark run sequen
     not-false false e = absurd (false≢true (sym e))
 
 -- a sequence of n octets follows
-module _ (text : List ℕ) (at n : ℕ) (read : ReadTo text at) (e : n ≡ sequence_length (drop at text)) (some : n ≡ 0 → ⊥) where
+module _ (text : List ℕ) (at n : ℕ) (read : ReadTo text at) (e : n ≡ sequence_length (drop at text)) (some : 0 < n) where
   abbrev sequence : List ℕ
   sequence = take n (drop at text)
 
   pub turn_fits : at + n ≤ length text
   turn_fits = omega (arith, sequence_fits (drop at text), length-drop at text, read.0)
 
-  one : (n : ℕ) → n ≡ sequence_length (drop at text) → (n ≡ 0 → ⊥) → sequences (take n (drop at text)) ≡ take n (drop at text) ∷ []
-  one zero e some = absurd (some refl)
+  one : (n : ℕ) → n ≡ sequence_length (drop at text) → 0 < n → sequences (take n (drop at text)) ≡ take n (drop at text) ∷ []
+  one zero e some = absurd (omega arith)
   one (suc m) e some = ap sequences (sym (append-nil (take (suc m) (drop at text)))) ∙ (first_again (drop at text) [] m (sym e) ∙ rw sequences_empty)
 
   turn_sequences : sequences (take (at + n) text) ≡ sequences (take at text) ++ sequence ∷ []

@@ -1,25 +1,23 @@
 -- Measuring a text and fitting a label (01, Labels; 02, E1), and the number and values of document 01 that each answer stands for.
-use Rattle.std.specs.Prelude.{cond, ℕ, zero, suc, ◌-◌, ◌≤◌, leb, length, take}
+use Rattle.std.specs.Prelude.{cond, ℕ, zero, suc, ◌-◌, ◌≤◌, leb, length, take, Result, Ok, Err}
 use mathlib.Core.List.{List, [], ◌∷◌, flatten}
 use Rattle.numbers.specs.Table.{ill_formed}
 use Rattle.numbers.specs.Counts.{in_octets, in_characters}
 use Rattle.numbers.specs.Answer.{Answer, given, refused_at}
 use Rattle.numbers.specs.declared.Octets.{Octets}
 use Rattle.numbers.specs.declared.Characters.{Characters}
-use Rattle.label.specs.declared.Text.{Text}
-use Rattle.label.specs.declared.Text.TheVariants as text
-use Rattle.label.specs.declared.Fitting.{Fitting}
-use Rattle.label.specs.declared.Fitting.TheVariants as fitting
+use Rattle.label.specs.declared.IllFormed.{IllFormed}
+use Rattle.label.specs.declared.Counts.{Counts}
 use Rattle.label.specs.Utf8.{well_formed, well_formed_octets}
 use Rattle.label.specs.Character.{characters, WholeCharacters}
 
-abbrev pub answer_of_text : Text → Answer Characters
-answer_of_text (text.WellFormed count) = given count
-answer_of_text (text.IllFormed offset) = refused_at ill_formed offset
+abbrev pub answer_of_text : Result Characters IllFormed → Answer Characters
+answer_of_text (Ok count) = given count
+answer_of_text (Err fault) = refused_at ill_formed fault.0
 
-abbrev pub answer_of_fitting : Fitting → Answer (Octets × Characters)
-answer_of_fitting (fitting.Kept octets count) = given (octets, count)
-answer_of_fitting (fitting.IllFormed offset) = refused_at ill_formed offset
+abbrev pub answer_of_fitting : Result Counts IllFormed → Answer (Octets × Characters)
+answer_of_fitting (Ok kept) = given (kept.octets, kept.characters)
+answer_of_fitting (Err fault) = refused_at ill_formed fault.0
 
 -- 01, Labels: ill-formed text anywhere is 8, with the offset at which the longest well-formed front part ends
 unfoldable pub judged : {Values : Type 0} → List ℕ → Values → Answer Values
@@ -51,9 +49,9 @@ unfoldable pub kept_part : List ℕ → Octets → Characters → List ℕ
 kept_part label octets count = cond (well_formed label) (flatten (kept_characters label octets count)) []
 
 -- the front part of a label that a fitting keeps
-abbrev pub front_of : List ℕ → Fitting → List ℕ
-front_of label (fitting.Kept octets count) = take octets.0 label
-front_of label (fitting.IllFormed offset) = []
+abbrev pub front_of : List ℕ → Result Counts IllFormed → List ℕ
+front_of label (Ok kept) = take kept.octets.0 label
+front_of label (Err fault) = []
 
 -- 00, demand 2: a cut label is the longest run of whole characters from its start within both its limits
 pub record Longest (label : List ℕ) (octets : Octets) (count : Characters) (part : List ℕ) : Type 0 where

@@ -14,8 +14,7 @@ pub(crate) fn starts_character(text: &[u8], at: usize, octets: usize) -> bool
     if octets != MARK_OCTETS || at == 0 {
         return true;
     }
-    let lead = text[at];
-    match lead {
+    match text[at] {
         0xCC => false,
         0xCD => 0xAF < text[at + 1],
         _ => true,

@@ -1,13 +1,15 @@
 -- The loop of `read`: what is left to read, after the groups that it has passed, is what stood at the offset.
 use Prim.Native.Nat.{ℕ, zero, suc, ◌+◌, ◌-◌, ◌*◌, ◌%◌, ◌^◌, ◌≤◌, ◌<◌}
 use mathlib.Core.Path.{◌≡◌, refl, ap₂, ◌∙◌}
-use mathlib.Core.List.{List}
+use mathlib.Core.List.{List, append-nil}
+use Rattle.std.specs.List.{slice_range}
+use Rattle.std.proofs.lemmas.List.Folds.{drop_split}
 use mathlib.Core.Bool.{cond}
 use native.Mathlib.Nat.{mod-lt, pow-suc, pow-le-pow_right, mul-le-mul_right}
 use native.Mathlib.Numerals.{add-one}
 use native.Mathlib.Omega.{arith}
-use lib.ListN.{length, get_or, drop, drop_of_length-le}
-use lib.Seq.{drop-cons}
+use lib.ListN.{length, get_or, drop, drop_of_length-le, length-drop}
+use lib.Seq.{drop-cons, drop-length}
 use lib.Dec.{eqb, lit<}
 use borrow.Author.Tests.{lt-ltb, le-ltb, ne_eqb}
 use Rattle.number.specs.Groups.{Front, found, none, joined, decoded, bounded, front_number, placed, read_at}
@@ -75,54 +77,61 @@ decoded_more (suc l) next s p h b =
     rw (e, add-one, drop-cons s next 0 h, le-ltb (get_or s next 0) 128 b)
 
 -- where the loop stands: k groups passed
-pub record Going (s : List ℕ) (at value scale next left k : ℕ) : Type 0 where
-  pub place : next ≡ at + k
-  pub groups : k + left ≡ 5
+pub record Going (s : List ℕ) (value scale k : ℕ) : Type 0 where
+  pub few : k ≤ 5
   pub scaled : scale ≡ 128 ^ k
   pub below : value < scale
-  pub reads : decoded 5 (drop at s) ≡ after k scale value (decoded left (drop next s))
+  pub reads : decoded 5 s ≡ after k scale value (decoded (5 - k) (drop k s))
 
-pub started : (s : List ℕ) (at : ℕ) → Going s at 0 1 at 5 0
+pub started : (s : List ℕ) → Going s 0 1 0
 unfolding after
-started s at = record { place = omega arith; groups = refl; scaled = refl; below = lit< tt; reads = refl }
+started s = record { few = omega arith; scaled = refl; below = lit< tt; reads = refl }
 
 -- what a turn may add fits: at most five groups
-module _ {s : List ℕ} {at value scale next left k : ℕ} (g : Going s at value scale next left k) (more : 0 < left) where
+module _ {s : List ℕ} {value scale k : ℕ} (g : Going s value scale k) (more : k < 5) where
   pub scale_small : scale ≤ 2 ^ 28
-  scale_small = rw g.scaled (pow-le-pow_right {n = 128} (lit< tt) {i = k} {j = 4} (omega (arith, g.groups)))
+  scale_small = rw g.scaled (pow-le-pow_right {n = 128} (lit< tt) {i = k} {j = 4} (omega arith))
 
   pub product_small : (o : ℕ) → o < 128 → o * scale ≤ 127 * scale
   product_small o h = mul-le-mul_right scale (omega arith)
 
   -- an octet with its top bit set: the loop goes on
-  pub goes_on : next < length s → 128 ≤ get_or s next 0 → Going s at (value + get_or s next 0 % 128 * scale) (scale * 128) (next + 1) (left - 1) (k + 1)
+  pub goes_on : k < length s → 128 ≤ get_or s k 0 → Going s (value + get_or s k 0 % 128 * scale) (scale * 128) (k + 1)
   goes_on h b =
-      let o : ℕ = get_or s next 0 in
+      let o : ℕ = get_or s k 0 in
+      let fewer : 5 - k - 1 ≡ 5 - (k + 1) = omega arith in
       record {
-        place = omega (arith, g.place);
-        groups = omega (arith, g.groups);
+        few = omega arith;
         scaled = rw (add-one, pow-suc, g.scaled);
         below = omega (arith, product_small (o % 128) (mod-lt o (lit< tt)), g.below);
-        reads = g.reads ∙ rw (decoded_more left next s more h b, add-one k) (after-joined k scale value (o % 128) (decoded (left - 1) (drop (next + 1) s)) g.scaled g.below);
+        reads = g.reads ∙ rw (decoded_more (5 - k) k s (omega arith) h b, fewer, add-one k) (after-joined k scale value (o % 128) (decoded (5 - suc k) (drop (suc k) s)) g.scaled g.below);
       }
 
   -- an octet with its top bit clear ends the number
-  pub ends : next < length s → get_or s next 0 < 128 → (get_or s next 0 ≡ 0 → next ≤ at) → decoded 5 (drop at s) ≡ found (value + get_or s next 0 * scale) (k + 1)
+  pub ends : k < length s → get_or s k 0 < 128 → (get_or s k 0 ≡ 0 → k ≡ 0) → decoded 5 s ≡ found (value + get_or s k 0 * scale) (k + 1)
   ends h b z =
-      g.reads ∙ rw (decoded_last left next s more h b)
-      (after_last k scale value (get_or s next 0) g.scaled g.below (λ e. omega (arith, g.place, z e)))
+      g.reads ∙ rw (decoded_last (5 - k) k s (omega arith) h b)
+      (after_last k scale value (get_or s k 0) g.scaled g.below z)
 
   -- a zero group at the end, and not alone
-  pub longer : next < length s → get_or s next 0 ≡ 0 → at < next → decoded 5 (drop at s) ≡ none
-  longer h e d = g.reads ∙ rw (decoded_last left next s more h (omega arith), e) (after-zero k scale value (omega (arith, g.place)))
+  pub longer : k < length s → get_or s k 0 ≡ 0 → 0 < k → decoded 5 s ≡ none
+  longer h e d = g.reads ∙ rw (decoded_last (5 - k) k s (omega arith) h (omega arith), e) (after-zero k scale value d)
 
-  pub cut : length s ≤ next → decoded 5 (drop at s) ≡ none
-  cut h = g.reads ∙ rw (decoded-cut left next s h) (after-none k scale value)
+  pub cut : length s ≤ k → decoded 5 s ≡ none
+  cut h = g.reads ∙ rw (decoded-cut (5 - k) k s h) (after-none k scale value)
+
+-- what is left from an offset on
+pub rest_is : (s rest : List ℕ) (at : ℕ) → at ≤ length s → rest ≡ slice_range s at (length s) → drop at s ≡ rest
+rest_is s rest at h e = drop_split s at (length s) h ∙ rw (drop-length, e) (append-nil (slice_range s at (length s)))
+
+-- an offset past the end
+pub past : (s : List ℕ) (at : ℕ) → length s < at → decoded 5 (drop at s) ≡ none
+past s at h = cut (started (drop at s)) (lit< tt) (omega (arith, length-drop at s))
 
 -- five groups and none the last
-pub too_many : (s : List ℕ) (at value scale next k : ℕ) → Going s at value scale next 0 k → decoded 5 (drop at s) ≡ none
+pub too_many : (s : List ℕ) (value scale k : ℕ) → Going s value scale k → 5 ≤ k → decoded 5 s ≡ none
 unfolding decoded
-too_many s at value scale next k g = g.reads ∙ after-none k scale value
+too_many s value scale k g h = let z : 5 - k ≡ 0 = omega arith in g.reads ∙ rw z (after-none k scale value)
 
 -- what the reader answers, by what it decoded
 module _ (s : List ℕ) (at : ℕ) where

@@ -5,99 +5,73 @@ ghost use Rattle.number.specs.Answers.{answer_of_reading, answer_of_written};
 ghost use Rattle.number.specs.Groups.{encoded, read_at, written_at, with_number_at};
 
 use numbers::Octets;
-use octets::wide;
 
-// What stands at an offset: a number in its shortest form with the offset after it, or no such number.
-#[derive(Clone, Copy)]
-pub enum Reading {
-    Number { value: u32, next: Octets },
-    Faulty,
+// A number of 32 bits has five groups at most.
+const MOST_GROUPS: usize = 5;
+
+// A number that stands in its shortest form, with the offset after it.
+#[derive(Clone, Copy, Debug, PartialEq, Eq)]
+pub struct Number {
+    pub value: u32,
+    pub next: Octets,
 }
 
-// What writing a number answers: the offset after it, or that it does not fit.
-#[derive(Clone, Copy)]
-pub enum Written {
-    Next(Octets),
-    Short,
-}
+// What is written does not fit.
+#[derive(Clone, Copy, Debug, PartialEq, Eq)]
+pub struct Short;
 
 // The number whose octets start at an offset. An offset past the end has none.
-pub fn read(octets: &[u8], at: Octets) -> Reading
+pub fn read(octets: &[u8], at: Octets) -> Option<Number>
     ensures { answer_of_reading at result ≡ read_at octets.now at }
 {
-    let start = at.0;
+    let rest = octets.get(at.0..)?;
     let mut value: u64 = 0;
     let mut scale: u64 = 1;
-    let mut next = start;
-    let mut left: usize = 5;
-    while 0 < left {
-        if octets.len() <= next {
-            return Reading::Faulty;
-        }
-        let octet = wide(octets[next]);
+    for groups in 0..MOST_GROUPS {
+        let octet = u64::from(*rest.get(groups)?);
         if octet < 128 {
-            if octet == 0 {
-                if start < next {
-                    return Reading::Faulty;
-                }
+            // A zero behind other groups makes a longer form than needed.
+            if octet == 0 && 0 < groups {
+                return None;
             }
-            let whole = value + octet * scale;
-            if 4294967296 <= whole {
-                return Reading::Faulty;
-            }
-            return Reading::Number {
-                value: whole as u32,
-                next: Octets(next + 1),
-            };
+            return Some(Number {
+                value: u32::try_from(value + octet * scale).ok()?,
+                next: Octets(at.0 + groups + 1),
+            });
         }
         value += octet % 128 * scale;
         scale *= 128;
-        next += 1;
-        left -= 1;
     }
-    Reading::Faulty
+    None
 }
 
 // How many octets a number takes.
 pub fn width(n: u32) -> Octets
     ensures { result.0 ≡ length (encoded n) }
 {
-    if n < 128 {
-        return Octets(1);
-    }
-    if n < 16384 {
-        return Octets(2);
-    }
-    if n < 2097152 {
-        return Octets(3);
-    }
-    if n < 268435456 {
-        return Octets(4);
-    }
-    Octets(5)
+    Octets(match n {
+        0..=0x7F => 1,
+        0x80..=0x3FFF => 2,
+        0x4000..=0x1F_FFFF => 3,
+        0x20_0000..=0xFFF_FFFF => 4,
+        _ => 5,
+    })
 }
 
 // Writes a number's octets from an offset on; where they do not fit, nothing is written.
-pub fn write(octets: &mut [u8], at: Octets, n: u32) -> Written
+pub fn write(octets: &mut [u8], at: Octets, n: u32) -> Result<Octets, Short>
     ensures { (answer_of_written result ≡ written_at octets.old at n) × (octets.new ≡ with_number_at octets.old at n) }
 {
-    let start = at.0;
-    let taken = width(n);
-    let size = taken.0;
-    let room = octets.len();
-    if room < size {
-        return Written::Short;
+    let size = width(n).0;
+    if octets.len() < size || octets.len() - size < at.0 {
+        return Err(Short);
     }
-    if room - size < start {
-        return Written::Short;
-    }
+    let last = at.0 + size - 1;
     let mut rest = n;
-    let mut next = start;
-    while 128 <= rest {
+    for next in at.0..last {
         octets[next] = (rest % 128 + 128) as u8;
         rest /= 128;
-        next += 1;
     }
-    octets[next] = rest as u8;
-    Written::Next(Octets(next + 1))
+    octets[last] = rest as u8;
+    Ok(Octets(last + 1))
 }

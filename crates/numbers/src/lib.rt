@@ -3,9 +3,9 @@
 pub mod table;
 
 // A count of octets, a limit on it, or an offset.
-#[derive(Clone, Copy)]
+#[derive(Clone, Copy, Debug, PartialEq, Eq, PartialOrd, Ord)]
 pub struct Octets(pub usize);
 
 // A count of characters, or a limit on it.
-#[derive(Clone, Copy)]
+#[derive(Clone, Copy, Debug, PartialEq, Eq, PartialOrd, Ord)]
 pub struct Characters(pub usize);

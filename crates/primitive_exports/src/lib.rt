@@ -7,7 +7,7 @@ ghost use Rattle.numbers.specs.Counts.{in_octets, in_characters};
 ghost use Rattle.label.specs.Fitting.{fit_of};
 ghost use Rattle.primitive_exports.specs.Report.{report};
 
-use label::Fitting;
+use label::IllFormed;
 use numbers::{Characters, Octets, table};
 
 // The check key of the octets; its low octet is sent first.
@@ -44,6 +44,7 @@ pub extern "C" fn propolisk_des_decipher(key: &[u8; 8], block: &mut [u8; 8])
 
 // The kept part's two counts and 0, or 8 with the offset in place of the octet count.
 #[unsafe(no_mangle)]
+#[tactic(auto, unfolding(crate::specs::Report::report))]
 pub extern "C" fn propolisk_label_fit(
     label: &[u8],
     octet_limit: usize,
@@ -53,14 +54,13 @@ pub extern "C" fn propolisk_label_fit(
 ) -> u8
     ensures { record { number = result; octets = octets.new; characters = characters.new } ≡ report (fit_of label.now (in_octets octet_limit) (in_characters character_limit)) characters.old }
 {
-    let fitting = label::fit(label, Octets(octet_limit), Characters(character_limit));
-    match fitting {
-        Fitting::Kept(kept, count) => {
-            *octets = kept.0;
-            *characters = count.0;
+    match label::fit(label, Octets(octet_limit), Characters(character_limit)) {
+        Ok(kept) => {
+            *octets = kept.octets.0;
+            *characters = kept.characters.0;
             table::NONE
         }
-        Fitting::IllFormed(offset) => {
+        Err(IllFormed(offset)) => {
             *octets = offset.0;
             table::ILL_FORMED
         }

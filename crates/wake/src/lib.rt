@@ -5,7 +5,7 @@ ghost use Rattle.wake.specs.Clauses.{enq_or_trf};
 ghost use Rattle.wake.specs.Rule.{fresh, awake, calling, otherwise, wake_before, asked, succeeded};
 
 // A request, named by its frame.
-#[derive(Clone, Copy)]
+#[derive(Clone, Copy, Debug, PartialEq, Eq)]
 pub enum Request {
     Enq,
     Trf,
@@ -15,21 +15,22 @@ pub enum Request {
 }
 
 // The wake-up call that goes out before a frame.
-#[derive(Clone, Copy)]
+// Two names of 01, and no value beside them that an option could hold.
+#[derive(Clone, Copy, Debug, PartialEq, Eq)]
 pub enum Wake {
     None,
     Agn,
 }
 
 // The last request, as the rule tells requests apart: an ENQ or TRF, or another or none.
-#[derive(Clone, Copy)]
+#[derive(Clone, Copy, Debug, PartialEq, Eq)]
 pub enum Last {
     EnqTrf,
     Other,
 }
 
 // A count of exchanges up to five, which stands for any more.
-#[derive(Clone, Copy)]
+#[derive(Clone, Copy, Debug, PartialEq, Eq)]
 pub struct Exchanges(pub u8);
 
 // So many ENQ and TRF to one station succeed after one wake-up.
@@ -49,13 +50,7 @@ impl Request {
     fn enq_or_trf(self) -> bool
         ensures { result ≡ enq_or_trf self }
     {
-        match self {
-            Request::Enq => true,
-            Request::Trf => true,
-            Request::Rec => false,
-            Request::Trb => false,
-            Request::Ib => false,
-        }
+        matches!(self, Request::Enq | Request::Trf)
     }
 }
 
@@ -65,62 +60,50 @@ impl WakeUps {
         ensures { result ≡ fresh }
     {
         WakeUps {
-            station: [0u8; STATION_WIDTH],
+            station: [0; STATION_WIDTH],
             successes: Exchanges(0),
         }
     }
 
     // Whether an ENQ or TRF to this station needs no wake-up.
+    #[tactic(auto, unfolding(crate::specs::Rule::awake))]
     fn awake(self, last: Last, station: [u8; STATION_WIDTH]) -> bool
         ensures { result ≡ awake last self station }
     {
-        let Last::EnqTrf = last else {
-            return false;
-        };
-        let known = self.station;
-        if !octets::equal(&station, &known) {
-            return false;
+        match last {
+            Last::EnqTrf => station == self.station && self.successes.0 < MOST_EXCHANGES,
+            Last::Other => false,
         }
-        let successes = self.successes;
-        successes.0 < MOST_EXCHANGES
     }
 
     // After an ENQ or TRF to this station: a wake-up starts the count anew.
     fn calling(self, last: Last, station: [u8; STATION_WIDTH]) -> WakeUps
         ensures { result ≡ calling last self station }
     {
-        let successes = self.successes;
-        if self.awake(last, station) {
-            return WakeUps {
-                station: station,
-                successes: successes,
-            };
-        }
-        WakeUps {
-            station: station,
-            successes: Exchanges(0),
-        }
+        let successes = if self.awake(last, station) {
+            self.successes
+        } else {
+            Exchanges(0)
+        };
+        WakeUps { station, successes }
     }
 
     // After another request.
     fn otherwise(self) -> WakeUps
         ensures { result ≡ otherwise self }
     {
-        let known = self.station;
         WakeUps {
-            station: known,
             successes: Exchanges(0),
+            ..self
         }
     }
 
     // The wake-up that goes before a request to this station, where the last request was this one.
+    #[tactic(auto, unfolding(crate::specs::Rule::wake_before))]
     pub fn before(self, last: Last, request: Request, station: [u8; STATION_WIDTH]) -> Wake
         ensures { result ≡ wake_before last self request station }
     {
-        if !request.enq_or_trf() {
-            return Wake::Agn;
-        }
-        if self.awake(last, station) {
+        if request.enq_or_trf() && self.awake(last, station) {
             Wake::None
         } else {
             Wake::Agn
@@ -128,6 +111,7 @@ impl WakeUps {
     }
 
     // After a request to this station.
+    #[tactic(auto, unfolding(crate::specs::Rule::asked))]
     pub fn asked(self, last: Last, request: Request, station: [u8; STATION_WIDTH]) -> WakeUps
         ensures { result ≡ asked last self request station }
     {
@@ -139,20 +123,16 @@ impl WakeUps {
     }
 
     // After the last request has ended without a number.
+    #[tactic(auto, unfolding(crate::specs::Rule::succeeded))]
     pub fn succeeded(self, last: Last) -> WakeUps
         ensures { result ≡ succeeded last self }
     {
-        let Last::EnqTrf = last else {
-            return self;
-        };
-        let successes = self.successes;
-        let count = successes.0;
-        if MOST_EXCHANGES <= count {
-            return self;
+        match last {
+            Last::EnqTrf if self.successes.0 < MOST_EXCHANGES => WakeUps {
+                successes: Exchanges(self.successes.0 + 1),
+                ..self
+            },
+            _ => self,
         }
-        let counted = Exchanges(count + 1);
-        let mut next = self;
-        next.successes = counted;
-        next
     }
 }

@@ -2,7 +2,7 @@
 use mathlib.Core.Path.{◌≡◌, sym, ap, ◌∙◌}
 use mathlib.Core.Bool.{true, false}
 use mathlib.Core.List.{List, [], ◌∷◌}
-use Prim.Native.Nat.{ℕ, ◌+◌, ◌≤◌}
+use Prim.Native.Nat.{ℕ, ◌+◌, ◌≤◌, ◌<◌}
 use native.Mathlib.Omega.{arith}
 use lib.ListN.{length, take, drop, length-append}
 use lib.Seq.{take_all}
@@ -17,7 +17,7 @@ use Rattle.label.proofs.measure.Goals.{then-starts_character, else-starts_charac
 use Rattle.label.proofs.measure.Goals as goal
 
 -- a turn, where a sequence of n octets stands at the offset
-module _ (text : List ℕ) (at n : ℕ) (read : ReadTo text at) (found : n ≡ sequence_length (drop at text)) (some : n ≡ 0 → ⊥) where
+module _ (text : List ℕ) (at n : ℕ) (read : ReadTo text at) (found : n ≡ sequence_length (drop at text)) (some : 0 < n) where
   in_text : at + n ≤ length text
   in_text = turn_fits text at n read found some
 
@@ -30,39 +30,30 @@ module _ (text : List ℕ) (at n : ℕ) (read : ReadTo text at) (found : n ≡ s
 pub loop-at-init : goal.loop-at-init
 loop-at-init c = (read_none c.args.text.now, omega arith, sym (ap length characters_empty))
 
-pub returns-then-length-eq0 : goal.returns-then-length-eq0
+pub returns-in_default : goal.returns-in_default
 unfolding measured
-returns-then-length-eq0 c = let text : List ℕ = c.args.text.now in
+returns-in_default c = let text : List ℕ = c.args.text.now in
     let at : ℕ = c.loop-at.at in
-    let ends : well_formed_octets text ≡ at = read_ended text at c.loop-at.invariant.0 (sym c.sequence_at-length.ensures ∙ c.if-length-eq0.true) in
+    let ends : well_formed_octets text ≡ at = read_ended text at c.loop-at.invariant.0 c.in_default.ensures in
     sym (judged-ill_formed text (in_characters (length (characters text))) (octets_ill_formed text (omega arith)) ∙ rw ends)
 
-pub starts_character-requires : goal.starts_character-requires
-starts_character-requires c = (c.sequence_at-length.ensures, omega (arith, c.if-length-eq0.false))
-
-pub overflow_add-characters : goal.overflow_add-characters
-overflow_add-characters c = omega (arith, in_text c.args.text.now c.loop-at.at c.sequence_at-length.result c.loop-at.invariant.0 c.sequence_at-length.ensures c.if-length-eq0.false, c.loop-at.invariant.1)
-
 pub overflow_add-at : goal.overflow_add-at
-overflow_add-at c = omega (arith, in_text c.args.text.now c.loop-at.at c.sequence_at-length.result c.loop-at.invariant.0 c.sequence_at-length.ensures c.if-length-eq0.false)
-
-pub loop-at-smaller : goal.loop-at-smaller
-loop-at-smaller c = omega (arith, in_text c.args.text.now c.loop-at.at c.sequence_at-length.result c.loop-at.invariant.0 c.sequence_at-length.ensures c.if-length-eq0.false, c.if-length-eq0.false)
+overflow_add-at c = omega (arith, in_text c.args.text.now c.loop-at.at c.in-Some.length c.loop-at.invariant.0 c.in-Some.ensures.0 c.in-Some.ensures.1)
 
 pub loop-at-preserved : goal.loop-at-preserved
 loop-at-preserved c =
     let text : List ℕ = c.args.text.now in
     let at : ℕ = c.loop-at.at in
-    let n : ℕ = c.sequence_at-length.result in
+    let n : ℕ = c.in-Some.length in
     let inv = c.loop-at.invariant in
-    let some = c.if-length-eq0.false in
+    let some = c.in-Some.ensures.1 in
     let starts = c.starts_character.ensures in
     let counted : (c.if-starts_character.characters ≤ at + n) × (c.if-starts_character.characters ≡ length (characters (take (at + n) text))) =
     elim c.if-starts_character.branch [
-      | then-starts_character w ↦ (omega (arith, w.characters-is, inv.1, some), omega (arith, w.characters-is, inv.2, started text at n inv.0 c.sequence_at-length.ensures some (sym starts ∙ w.if-starts_character.true)))
-      | else-starts_character w ↦ (omega (arith, w.characters-is, inv.1), omega (arith, w.characters-is, inv.2, joined text at n inv.0 c.sequence_at-length.ensures some (sym starts ∙ w.if-starts_character.false)))
+      | then-starts_character w ↦ (omega (arith, w.characters-is, inv.1, some), omega (arith, w.characters-is, inv.2, started text at n inv.0 c.in-Some.ensures.0 some (sym starts ∙ w.if-starts_character.true)))
+      | else-starts_character w ↦ (omega (arith, w.characters-is, inv.1), omega (arith, w.characters-is, inv.2, joined text at n inv.0 c.in-Some.ensures.0 some (sym starts ∙ w.if-starts_character.false)))
     ] in
-    (turn_read text at n inv.0 c.sequence_at-length.ensures some, counted.0, counted.1)
+    (turn_read text at n inv.0 c.in-Some.ensures.0 some, counted.0, counted.1)
 
 pub returns : goal.returns
 unfolding measured

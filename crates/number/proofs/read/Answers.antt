@@ -1,81 +1,74 @@
 -- `read`: the groups passed and what is left to read make up what stood at the offset, and each way out ends it by its octet.
-use Prim.Native.Nat.{◌+◌, ◌*◌, ◌%◌, ◌≤◌}
-use mathlib.Core.Path.{◌≡◌, sym, ◌∙◌}
-use lib.ListN.{get_or, drop}
+use Rattle.std.proofs.Common.{arith, ◌≡◌, sym, ◌∙◌, ap, ℕ, ◌+◌, ◌*◌, get_or, drop, false, ⊎_elim, Result, Ok, Err, Some}
+use Rattle.std.proofs.lemmas.Bool.{false≢true}
+use Rattle.std.specs.Result.{OkIff, is_ok, result_ok}
 use Rattle.number.specs.Groups.{decoded, found}
-use Rattle.number.proofs.Turns.{started, goes_on, ends, longer, cut, too_many, reads_none, reads_large, reads_number, scale_small, product_small}
-use native.Mathlib.Omega.{arith}
-use Rattle.number.proofs.read.Goals.{Joined-octet-eq0, then-octet-eq0+else-start-next, else-octet-eq0}
+use Rattle.number.proofs.Turns.{rest_is, started, past, goes_on, ends, longer, cut, too_many, scale_small, reads_none, reads_large, reads_number}
+use Rattle.number.proofs.read.Goals.{After-try_from, else-octet-eq0-via-then-octet-eq0+else-groups-gt0, else-octet-eq0-via-else-octet-eq0}
 use Rattle.number.proofs.read.Goals as goal
 
+-- what `try_from` tells of a number that fits, and of one that does not
+fits : {E : Type 0} (r : Result ℕ E) (P : Type 0) (v x : ℕ) → OkIff r P v → Some x ≡ result_ok r → P × (x ≡ v)
+fits (Ok y) P v x h e = let same : x ≡ y = cc in (h.0, same ∙ h.1)
+fits (Err d) P v x h e = absurd cc
+
+over : {E : Type 0} (r : Result ℕ E) (P : Type 0) (v : ℕ) → OkIff r P v → false ≡ is_ok r → P → ⊥
+over (Ok x) P v h e = absurd (false≢true e)
+over (Err d) P v h e = h
+
 -- a last octet that is no zero behind other groups
-last_octet : (c : Joined-octet-eq0) → let w = c in let l = w.loop-left in let a = w.args in decoded 5 (drop a.at.0 a.octets.now) ≡ found (l.value + w.wide-octet.result * l.scale) (l.invariant.0 + 1)
+last_octet : (c : After-try_from) → decoded 5 (drop c.args.at.0 c.args.octets.now) ≡ found (c.loop-groups.value + c.from-octet.result * c.loop-groups.scale) (c.loop-groups.groups + 1)
 last_octet c =
-    let w = c in
-    let l = w.loop-left in
-    let alone : w.wide-octet.result ≡ 0 → l.next ≤ w.args.at.0 = elim c.if-octet-eq0.branch [ then-octet-eq0+else-start-next w ↦ λ _. w.if-start-next.false | else-octet-eq0 w ↦ λ e. absurd (w.if-octet-eq0.false e) ] in
-    rw w.wide-octet.ensures
-    (ends l.invariant.1 w.loop-left-test.true w.if-octets-next.false (rw (← w.wide-octet.ensures) c.if-octet-lt128.true) (λ e. alone (w.wide-octet.ensures ∙ e)))
+    let l = c.loop-groups in
+    let from = c.in_ok-rest.ensures.lookup.0 in
+    let there = c.in_ok-get.ensures.lookup.3 in
+    let octet : get_or c.in_ok-rest.rest.now l.groups 0 ≡ c.from-octet.result = sym (c.from-octet.ensures ∙ there.1 0) in
+    let alone : c.from-octet.result ≡ 0 → l.groups ≡ 0 = elim c.else-octet-eq0.branch [
+      | else-octet-eq0-via-then-octet-eq0+else-groups-gt0 w ↦ λ _. omega (arith, w.if-groups-gt0.false)
+      | else-octet-eq0-via-else-octet-eq0 w ↦ λ e. absurd (w.if-octet-eq0.false e)
+    ] in
+    ap (decoded 5) (rest_is _ _ c.args.at.0 from.0 from.2) ∙ rw (← octet) (ends l.invariant c.loop-groups-test.true there.0 (rw octet c.if-octet-lt128.true) (λ e. alone (sym octet ∙ e)))
 
-pub loop-left-init : goal.loop-left-init
-loop-left-init c = (0, started c.args.octets.now c.args.at.0)
-
-pub returns-then-octets-next : goal.returns-then-octets-next
-returns-then-octets-next c = let l = c.loop-left in
+pub returns-in_err-rest : goal.returns-in_err-rest
+returns-in_err-rest c =
     let a = c.args in
-    sym (reads_none a.octets.now a.at.0 (cut l.invariant.1 c.loop-left-test.true c.if-octets-next.true))
+    rw c.from_residual.ensures (sym (reads_none a.octets.now a.at.0 (past a.octets.now a.at.0 (⊎_elim (λ h. h) (λ h. omega (arith, h)) c.in_err-rest.ensures.lookup.0))))
 
-pub returns-then-start-next : goal.returns-then-start-next
-returns-then-start-next c = let w = c in
-    let l = w.loop-left in
-    let a = w.args in
-    let e : get_or a.octets.now l.next 0 ≡ 0 = sym w.wide-octet.ensures ∙ c.if-octet-eq0.true in
-    sym (reads_none a.octets.now a.at.0 (longer l.invariant.1 w.loop-left-test.true w.if-octets-next.false e c.if-start-next.true))
+pub loop-groups-init : goal.loop-groups-init
+loop-groups-init c = started c.in_ok-rest.rest.now
 
-pub overflow_mul-whole : goal.overflow_mul-whole
-overflow_mul-whole c = let l = c.loop-left in
-    let t = c.loop-left-test.true in
-    omega (arith, scale_small l.invariant.1 t, product_small l.invariant.1 t c.wide-octet.result c.if-octet-lt128.true)
+pub returns-in_err-get : goal.returns-in_err-get
+returns-in_err-get c =
+    let from = c.in_ok-rest.ensures.lookup.0 in
+    rw c.from_residual-in_err-get.ensures (sym (reads_none _ c.args.at.0 (ap (decoded 5) (rest_is _ _ c.args.at.0 from.0 from.2) ∙ cut c.loop-groups.invariant c.loop-groups-test.true c.in_err-get.ensures.lookup.3)))
 
-pub overflow_add-whole : goal.overflow_add-whole
-overflow_add-whole c = let l = c.loop-left in
-    let t = c.loop-left-test.true in
-    omega (arith, l.invariant.1.below, scale_small l.invariant.1 t, product_small l.invariant.1 t c.wide-octet.result c.if-octet-lt128.true)
+pub returns-then-groups-gt0 : goal.returns-then-groups-gt0
+returns-then-groups-gt0 c =
+    let from = c.in_ok-rest.ensures.lookup.0 in
+    let there = c.in_ok-get.ensures.lookup.3 in
+    let zero : get_or c.in_ok-rest.rest.now c.loop-groups.groups 0 ≡ 0 = sym (c.from-octet.ensures ∙ there.1 0) ∙ c.if-octet-eq0.true in
+    sym (reads_none _ c.args.at.0 (ap (decoded 5) (rest_is _ _ c.args.at.0 from.0 from.2) ∙ longer c.loop-groups.invariant c.loop-groups-test.true there.0 zero c.if-groups-gt0.true))
 
-pub returns-then-whole-ge4294967296 : goal.returns-then-whole-ge4294967296
-returns-then-whole-ge4294967296 c = let a = c.args in
-    sym (reads_large a.octets.now a.at.0 _ _ (last_octet (goal.at.returns-then-whole-ge4294967296 c).Joined-octet-eq0) c.if-whole-ge4294967296.true)
-
-pub overflow_cast-result : goal.overflow_cast-result
-overflow_cast-result c = omega (arith, c.if-whole-ge4294967296.false)
+pub returns-in_err-ok : goal.returns-in_err-ok
+returns-in_err-ok c =
+    rw c.from_residual-in_err-ok.ensures (sym (reads_large c.args.octets.now c.args.at.0 _ _ (last_octet (goal.at.returns-in_err-ok c).After-try_from) (omega (arith, over _ _ _ c.try_from.ensures c.in_err-ok.ensures.variant))))
 
 pub returns-then-octet-lt128 : goal.returns-then-octet-lt128
-returns-then-octet-lt128 c = let l = c.loop-left in
-    let a = c.args in
-    let e : l.next + 1 ≡ a.at.0 + (l.invariant.0 + 1) = omega (arith, l.invariant.1.place) in
-    rw e (sym (reads_number a.octets.now a.at.0 _ _ (last_octet (goal.at.returns-then-octet-lt128 c).Joined-octet-eq0) c.if-whole-ge4294967296.false))
-
-pub overflow_mul-value : goal.overflow_mul-value
-overflow_mul-value c = let l = c.loop-left in
-    let t = c.loop-left-test.true in
-    omega (arith, scale_small l.invariant.1 t, product_small l.invariant.1 t (c.wide-octet.result % 128) (omega arith))
-
-pub overflow_add-value : goal.overflow_add-value
-overflow_add-value c = let l = c.loop-left in
-    let t = c.loop-left-test.true in
-    omega (arith, l.invariant.1.below, scale_small l.invariant.1 t, product_small l.invariant.1 t (c.wide-octet.result % 128) (omega arith))
+returns-then-octet-lt128 c =
+    let told = fits _ _ _ _ c.try_from.ensures c.in_ok-ok.ensures.value in
+    let place : c.args.at.0 + c.loop-groups.groups + 1 ≡ c.args.at.0 + (c.loop-groups.groups + 1) = omega arith in
+    rw (told.1, place) (sym (reads_number c.args.octets.now c.args.at.0 _ _ (last_octet (goal.at.returns-then-octet-lt128 c).After-try_from) told.0))
 
 pub overflow_mul-scale : goal.overflow_mul-scale
-overflow_mul-scale c = let l = c.loop-left in
-    omega (arith, scale_small l.invariant.1 c.loop-left-test.true)
+overflow_mul-scale c = omega (arith, scale_small c.loop-groups.invariant c.loop-groups-test.true)
 
-pub loop-left-preserved : goal.loop-left-preserved
-loop-left-preserved c = let l = c.loop-left in
-    rw c.wide-octet.ensures
-    (l.invariant.0 + 1, goes_on l.invariant.1 c.loop-left-test.true c.if-octets-next.false (rw (← c.wide-octet.ensures) c.if-octet-lt128.false))
+pub loop-groups-preserved : goal.loop-groups-preserved
+loop-groups-preserved c =
+    let there = c.in_ok-get.ensures.lookup.3 in
+    let octet : c.from-octet.result ≡ get_or c.in_ok-rest.rest.now c.loop-groups.groups 0 = c.from-octet.ensures ∙ there.1 0 in
+    rw octet (goes_on c.loop-groups.invariant c.loop-groups-test.true there.0 (rw octet at c.if-octet-lt128.false))
 
 pub returns : goal.returns
-returns c = let l = c.loop-left in
-    let a = c.args in
-    let z : l.left ≡ 0 = omega arith in
-    sym (reads_none a.octets.now a.at.0 (too_many a.octets.now a.at.0 l.value l.scale l.next l.invariant.0 (rw z at l.invariant.1)))
+returns c =
+    let from = c.in_ok-rest.ensures.lookup.0 in
+    sym (reads_none _ c.args.at.0 (ap (decoded 5) (rest_is _ _ c.args.at.0 from.0 from.2) ∙ too_many _ _ _ _ c.loop-groups.invariant c.loop-groups-test.false))

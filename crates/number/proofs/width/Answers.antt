@@ -1,19 +1,19 @@
--- `width`: each test leaves the numbers that take one octet more.
-use mathlib.Core.Path.{sym}
+-- `width`: each range has the numbers that take so many octets.
+use Rattle.std.proofs.Common.{arith, sym}
 use Rattle.number.proofs.Laying.{width_one, width_two, width_three, width_four, width_five}
 use Rattle.number.proofs.width.Goals as goal
 
-pub returns-then-n-lt128 : goal.returns-then-n-lt128
-returns-then-n-lt128 c = sym (width_one c.args.n c.if-n-lt128.true)
+pub returns-in-0-to-127 : goal.returns-in-0-to-127
+returns-in-0-to-127 c = sym (width_one c.args.n (omega arith))
 
-pub returns-then-n-lt16384 : goal.returns-then-n-lt16384
-returns-then-n-lt16384 c = sym (width_two c.args.n c.if-n-lt128.false c.if-n-lt16384.true)
+pub returns-in-128-to-16383 : goal.returns-in-128-to-16383
+returns-in-128-to-16383 c = sym (width_two c.args.n (omega arith) (omega arith))
 
-pub returns-then-n-lt2097152 : goal.returns-then-n-lt2097152
-returns-then-n-lt2097152 c = sym (width_three c.args.n c.if-n-lt16384.false c.if-n-lt2097152.true)
+pub returns-in-16384-to-2097151 : goal.returns-in-16384-to-2097151
+returns-in-16384-to-2097151 c = sym (width_three c.args.n (omega arith) (omega arith))
 
-pub returns-then-n-lt268435456 : goal.returns-then-n-lt268435456
-returns-then-n-lt268435456 c = sym (width_four c.args.n c.if-n-lt2097152.false c.if-n-lt268435456.true)
+pub returns-in-2097152-to-268435455 : goal.returns-in-2097152-to-268435455
+returns-in-2097152-to-268435455 c = sym (width_four c.args.n (omega arith) (omega arith))
 
-pub returns : goal.returns
-returns c = sym (width_five c.args.n c.if-n-lt268435456.false)
+pub returns-in_default : goal.returns-in_default
+returns-in_default c = sym (width_five c.args.n (omega arith))

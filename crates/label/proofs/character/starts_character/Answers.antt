@@ -62,4 +62,4 @@ pub returns-in-205 : goal.returns-in-205
 returns-in-205 c = starts_second c.args.text.now c.args.at c.args.octets c.requires.0 c.if-octets-ne-MARK_OCTETS.false c.if-at-eq0.false c.in-205.is
 
 pub returns-in_default : goal.returns-in_default
-returns-in_default c = starts_other c.args.text.now c.args.at c.args.octets c.requires.0 c.if-octets-ne-MARK_OCTETS.false c.if-at-eq0.false c.in_default.in_default-own.rest.0.1 c.in_default.in_default-own.rest.1
+returns-in_default c = starts_other c.args.text.now c.args.at c.args.octets c.requires.0 c.if-octets-ne-MARK_OCTETS.false c.if-at-eq0.false (λ e. omega (arith, e)) (λ e. omega (arith, e))
