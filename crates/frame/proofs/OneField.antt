@@ -1,6 +1,6 @@
 -- One field, written and read: a field that is read back, a field that is written as it was read, and a field of two frames that agree.
 use Prim.Native.Nat.{ℕ, suc, ◌+◌, ◌-◌, ◌≤◌, ◌<◌}
-use mathlib.Core.Path.{◌≡◌, refl, sym, ap, ◌∙◌}
+use mathlib.Core.Path.{◌≡◌, refl, sym, ◌∙◌}
 use mathlib.Core.List.{List, [], ◌∷◌, ◌++◌, reverse, reverse-reverse}
 use mathlib.Core.Bool.{true, false, and-false}
 use native.Mathlib.Nat.{add-zero}
@@ -10,7 +10,6 @@ use lib.Seq.{get_or_at, ext_get_or}
 use lib.Dec.{leb}
 use borrow.Author.Tests.{le-leb, lt-leb, lt-ltb, le-ltb}
 use Rattle.octets.specs.Part.{part_of}
-use Rattle.octets.specs.Splice.{spliced}
 use Rattle.octets.proofs.Parts.{part_middle, part_none, part_agree, part_cons, length_part, get_or_part}
 use Rattle.octets.proofs.Splice.{spliced_whole}
 use Rattle.frame.specs.declared.layout.Presence.{Presence}
@@ -33,10 +32,12 @@ octet_on_wire Absent x before after at h = refl
 octet_on_wire Zero x before after at h = refl
 octet_on_wire Carried x before after at h = get_or_at before x after 0 at h
 
--- a carried field read over as many zeros as it has octets
-pub value_over_zeros : (v s : List ℕ) (at : ℕ) → v ≡ replicate (length v) 0 → spliced v 0 (turned (part_of s at (at + length v))) ≡ value_at Carried (length v) s at
+-- a field that carries no value
+pub value_elsewhere : (p : Presence) (n : ℕ) (s : List ℕ) (at : ℕ) → (p ≡ Carried → ⊥) → value_at p n s at ≡ replicate n 0
 unfolding value_at
-value_over_zeros v s at e = ap (λ (l : List ℕ). spliced l 0 (turned (part_of s at (at + length v)))) e
+value_elsewhere Absent n s at h = refl
+value_elsewhere Zero n s at h = refl
+value_elsewhere Carried n s at h = absurd (h refl)
 
 -- a carried field that the frame has
 value_carried : (n : ℕ) (s : List ℕ) (at : ℕ) → at + n ≤ length s → value_at Carried n s at ≡ turned (part_of s at (at + n))

@@ -11,8 +11,7 @@ use Rattle.numbers.specs.declared.Octets.{Octets}
 use Rattle.frame.specs.declared.codes.Command.{Command}
 use Rattle.frame.specs.declared.content.Fields.{Fields}
 use Rattle.frame.specs.declared.builder.Refusal.{Refusal}
-use Rattle.frame.specs.declared.builder.Built.{Built}
-use Rattle.frame.specs.declared.builder.Built.TheVariants.{Frame, Refused}
+use Rattle.std.specs.Prelude.{Result, Ok, Err}
 use Rattle.frame.specs.Sizes.{longest_frame}
 use Rattle.frame.specs.Layout.{layout_of, within}
 use Rattle.frame.specs.Building.{refusal_number, answer_of_built, frame_octets, laid_over, built, Sends}
@@ -22,13 +21,13 @@ module _ (b : List ℕ) (k : Command) (f : Fields) (d : List ℕ) (capacity : lo
   made : built b k f d ≡ laid_over (frame_octets k f d) b
   made = built_made b k f d capacity amount
 
-  module _ (answer : Built) (after : List ℕ) (e : answer_of_built answer ≡ (built b k f d).answer) (l : after ≡ (built b k f d).buffer) where
-    pub sends : (sent : Octets) → answer ≡ Frame sent → Sends (frame_octets k f d) b after sent
+  module _ (answer : Result Octets Refusal) (after : List ℕ) (e : answer_of_built answer ≡ (built b k f d).answer) (l : after ≡ (built b k f d).buffer) where
+    pub sends : (sent : Octets) → answer ≡ Ok sent → Sends (frame_octets k f d) b after sent
     sends sent h =
         let z : given sent ≡ given (in_octets (length (frame_octets k f d))) = sym (ap answer_of_built h) ∙ e ∙ ap (λ o. o.answer) made in
         record { octets = cc; buffer = l ∙ ap (λ o. o.buffer) made }
 
-    pub never_refused : {X : Type 0} (refusal : Refusal) → answer ≡ Refused refusal → X
+    pub never_refused : {X : Type 0} (refusal : Refusal) → answer ≡ Err refusal → X
     never_refused refusal h =
         let z : refused (refusal_number refusal) ≡ given (in_octets (length (frame_octets k f d))) = sym (ap answer_of_built h) ∙ e ∙ ap (λ o. o.answer) made in
         impossible (cc)

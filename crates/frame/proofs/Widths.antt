@@ -1,9 +1,15 @@
 -- How wide the fields of a layout can be, so that no offset wraps and no frame is longer than 128 octets.
 use Prim.Native.Nat.{ℕ, ◌≤◌, ◌<◌}
 use mathlib.Core.Path.{◌≡◌}
-use mathlib.Core.Bool.{true, false}
+use mathlib.Core.Logic.{inl, inr}
+use mathlib.Core.Bool.{true, false, ◌&&◌}
 use native.Mathlib.Omega.{arith}
-use lib.Dec.{lit≤}
+use lib.Dec.{lit≤, leb}
+use borrow.Author.Tests.{le-leb, lt-leb, lt-ltb, le-ltb, eq-eqb, ne_eqb}
+use Rattle.std.specs.Prelude.{Some}
+use Rattle.std.specs.Ordering.{partial_le, nat_cmp}
+use Rattle.std.proofs.lemmas.Bool.{cases_lt, cases_eq}
+use Rattle.octets.specs.Between.{between}
 use Rattle.octets.proofs.Bounds.{between_both, between_below, between_above, between_bounds}
 use Rattle.frame.specs.declared.codes.Command.{Command}
 use Rattle.frame.specs.declared.codes.Command.TheVariants.{Enq, Dat, Rec, Ech, Aut, Eos, Aso, Rso, Ib, Drj, Arj, Trf, Trb, Tra, Pre, Sel}
@@ -22,6 +28,23 @@ width_most Carried n = omega arith
 pub content_most : (l : Layout) → (places_of l).content.0 ≤ most_before_data
 content_most l =
     omega (arith, width_most l.za1 number_width, width_most l.za2 number_width, width_most l.tab tab_width, width_most l.announced address_width)
+
+-- one order of numbers, as a range tests it
+at_most : (a b : ℕ) → partial_le (λ x y. Some (nat_cmp x y)) a b ≡ leb a b
+at_most a b =
+    elim (cases_lt a b) [
+      | inl h ↦ rw (lt-ltb a b h, le-leb a b (omega (arith, h)))
+      | inr h ↦
+          elim (cases_eq a b) [
+            | inl e ↦ rw (le-ltb a b h, eq-eqb a b e, le-leb a b (omega (arith, e)))
+            | inr n ↦ rw (le-ltb a b h, ne_eqb a b n, lt-leb a b (omega (arith, h, n)))
+          ]
+    ]
+
+-- what a range with both bounds contains
+pub range_between : (least most n : ℕ) → (partial_le (λ x y. Some (nat_cmp x y)) least n && partial_le (λ x y. Some (nat_cmp x y)) n most) ≡ between least most n
+unfolding between
+range_between least most n = rw (at_most least n, at_most n most)
 
 -- DATA's limits are in order, and the longest frame of any command has 128 octets at most
 pub limits : (c : Command) → ((layout_of c).least.0 ≤ (layout_of c).most.0) × (whole_length (layout_of c) (layout_of c).most.0 ≤ longest_frame)

@@ -1,10 +1,10 @@
 -- The steps of the builder on a buffer: each writes where the last one ended.
-use Prim.Native.Nat.{ℕ, zero, suc, ◌+◌, ◌-◌, ◌≤◌}
+use Prim.Native.Nat.{ℕ, ◌+◌, ◌-◌, ◌≤◌}
 use mathlib.Core.Path.{◌≡◌, refl, ap, ◌∙◌}
 use mathlib.Core.List.{List, [], ◌∷◌, ◌++◌, reverse, append_assoc}
 use native.Mathlib.Nat.{add_assoc}
 use native.Mathlib.Omega.{arith}
-use lib.ListN.{length, take, replicate, length-append, length-reverse, length-replicate}
+use lib.ListN.{length, length-append, length-reverse, length-replicate}
 use borrow.Rule.Slice.PartMut.{put_mid}
 use Rattle.octets.specs.Splice.{spliced, fronted}
 use Rattle.octets.proofs.Splice.{spliced_fits, spliced_front, spliced_next, take-fronted, length-fronted, spliced_after, lent_spliced}
@@ -31,14 +31,6 @@ head_made n ads adp code e =
 pub length_head : (n : ℕ) (ads : List ℕ) (adp code : ℕ) → length ads ≡ address_width → length (head_of n ads adp code) ≡ fields_at
 unfolding head_of
 length_head n ads adp code e = rw (length-append, length-reverse, e)
-
-pub take_zeros : (n m : ℕ) → n ≤ m → take n (replicate {A = ℕ} m 0) ≡ replicate n 0
-take_zeros zero m h = refl
-take_zeros (suc n) zero h = absurd (none h)
-  where
-    none : suc n ≤ 0 → ⊥
-    none k = omega arith
-take_zeros (suc n) (suc m) h = ap (λ (l : List ℕ). 0 ∷ l) (take_zeros n m (omega arith))
 
 pub length-on_wire : (p : Presence) (v : List ℕ) (n : ℕ) → length v ≡ n → length (on_wire p v) ≡ width p n
 unfolding on_wire

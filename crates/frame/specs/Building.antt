@@ -1,5 +1,5 @@
 -- The octets of a frame, and what building one gives and leaves in the lent buffer.
-use Rattle.std.specs.Prelude.{ℕ, ◌≡◌, List, [], ◌∷◌, ◌++◌, cond, length, take, leb}
+use Rattle.std.specs.Prelude.{ℕ, ◌≡◌, List, [], ◌∷◌, ◌++◌, Result, Ok, Err, cond, length, take, leb}
 use Rattle.octets.specs.Splice.{spliced, fronted}
 use Rattle.crc.specs.AnnexE.{check_key_octets}
 use Rattle.numbers.specs.Table.{too_long, wrong_length}
@@ -11,8 +11,6 @@ use Rattle.frame.specs.declared.layout.Layout.{Layout}
 use Rattle.frame.specs.declared.content.Fields.{Fields}
 use Rattle.frame.specs.declared.builder.Refusal.{Refusal}
 use Rattle.frame.specs.declared.builder.Refusal.TheVariants.{Buffer, Data}
-use Rattle.frame.specs.declared.builder.Built.{Built}
-use Rattle.frame.specs.declared.builder.Built.TheVariants as made
 use Rattle.frame.specs.Sizes.{longest_frame}
 use Rattle.frame.specs.Codes.{code_of}
 use Rattle.frame.specs.Layout.{layout_of, whole_length, within}
@@ -23,9 +21,9 @@ abbrev pub refusal_number : Refusal → ℕ
 refusal_number Buffer = wrong_length
 refusal_number Data = too_long
 
-abbrev pub answer_of_built : Built → Answer Octets
-answer_of_built (made.Frame octets) = given octets
-answer_of_built (made.Refused refusal) = refused (refusal_number refusal)
+abbrev pub answer_of_built : Result Octets Refusal → Answer Octets
+answer_of_built (Ok octets) = given octets
+answer_of_built (Err refusal) = refused (refusal_number refusal)
 
 -- N, ADS, ADP and COM
 unfoldable pub head_of : ℕ → List ℕ → ℕ → ℕ → List ℕ

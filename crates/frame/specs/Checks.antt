@@ -1,5 +1,5 @@
 -- The checks of a whole frame, in the order of 01, Receiving, and the number and values of 01 that each answer stands for.
-use Rattle.std.specs.Prelude.{ℕ, List, [], ◌∷◌, cond, length, get_or, replicate, eqb}
+use Rattle.std.specs.Prelude.{ℕ, List, [], ◌∷◌, Option, Some, None, Result, Ok, Err, cond, length, get_or, replicate, eqb}
 use Rattle.octets.specs.Between.{between}
 use Rattle.crc.specs.AnnexE.{divides}
 use Rattle.numbers.specs.Table.{length_out_of_range, wrong_check_key, cut_frame, unknown_command, impossible_length}
@@ -7,12 +7,8 @@ use Rattle.numbers.specs.Counts.{in_octets}
 use Rattle.numbers.specs.Answer.{Answer, given, refused, refused_at, when_given}
 use Rattle.numbers.specs.declared.Octets.{Octets}
 use Rattle.frame.specs.declared.codes.Command.{Command}
-use Rattle.frame.specs.declared.checks.Stated.{Stated}
-use Rattle.frame.specs.declared.checks.Stated.TheVariants as stated
 use Rattle.frame.specs.declared.checks.Fault.{Fault}
 use Rattle.frame.specs.declared.checks.Fault.TheVariants.{OutOfRange, Crc, Cut, Unknown, Length}
-use Rattle.frame.specs.declared.checks.Verdict.{Verdict}
-use Rattle.frame.specs.declared.checks.Verdict.TheVariants as verdict
 use Rattle.frame.specs.declared.content.Fields.{Fields}
 use Rattle.frame.specs.declared.content.Reading.{Reading}
 use Rattle.frame.specs.Sizes.{shortest_frame, longest_frame, com_at, address_width, number_width}
@@ -28,13 +24,13 @@ fault_number Cut = cut_frame
 fault_number Unknown = unknown_command
 fault_number Length = impossible_length
 
-abbrev pub answer_of_stated : Stated → Answer Octets
-answer_of_stated (stated.Whole n) = given n
-answer_of_stated stated.Outside = refused length_out_of_range
+abbrev pub answer_of_stated : Option Octets → Answer Octets
+answer_of_stated (Some n) = given n
+answer_of_stated None = refused length_out_of_range
 
-abbrev pub answer_of_verdict : Verdict → Answer Command
-answer_of_verdict (verdict.Good c) = given c
-answer_of_verdict (verdict.Refused f) = refused (fault_number f)
+abbrev pub answer_of_verdict : Result Command Fault → Answer Command
+answer_of_verdict (Ok c) = given c
+answer_of_verdict (Err f) = refused (fault_number f)
 
 -- 01, Receiving: "If the whole length it states is under 11 or over 128, answer 1."
 unfoldable pub stated_by : ℕ → Answer Octets
@@ -72,8 +68,9 @@ pub record FrameRead : Type 0 where
   pub verdict : Answer Command
   pub fields : Fields
 
-abbrev pub answer_of_reading : Reading → FrameRead
-answer_of_reading r = record { verdict = answer_of_verdict r.verdict; fields = r.fields }
+abbrev pub answer_of_reading : Result Reading Fault → FrameRead
+answer_of_reading (Ok r) = record { verdict = given r.command; fields = r.fields }
+answer_of_reading (Err f) = record { verdict = refused (fault_number f); fields = no_fields }
 
 -- a whole frame in a slice with its fields
 unfoldable pub read_of : List ℕ → FrameRead

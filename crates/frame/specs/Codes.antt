@@ -1,11 +1,10 @@
 -- The command codes of 004 Annex D, Table D.1, that are used without DLMS. They are the commands that 01 names under Frames.
-use Rattle.std.specs.Prelude.{ℕ, List, [], ◌∷◌, cond, eqb}
+use Rattle.std.specs.Prelude.{ℕ, List, [], ◌∷◌, Result, Ok, Err, cond, eqb}
 use Rattle.numbers.specs.Table.{unknown_command}
 use Rattle.numbers.specs.Answer.{Answer, given, refused}
 use Rattle.frame.specs.declared.codes.Command.{Command}
 use Rattle.frame.specs.declared.codes.Command.TheVariants.{Enq, Dat, Rec, Ech, Aut, Eos, Aso, Rso, Ib, Drj, Arj, Trf, Trb, Tra, Pre, Sel}
-use Rattle.frame.specs.declared.codes.Lookup.{Lookup}
-use Rattle.frame.specs.declared.codes.Lookup.TheVariants.{Found, Missing}
+use Rattle.frame.specs.declared.codes.UnknownCommand.{UnknownCommand}
 
 unfoldable pub code_of : Command → ℕ
 code_of Enq = 0x01
@@ -28,9 +27,9 @@ code_of Sel = 0x11
 abbrev pub commands : List Command
 commands = Enq ∷ Dat ∷ Rec ∷ Ech ∷ Aut ∷ Eos ∷ Aso ∷ Rso ∷ Ib ∷ Drj ∷ Arj ∷ Trf ∷ Trb ∷ Tra ∷ Pre ∷ Sel ∷ []
 
-abbrev pub answer_of_lookup : Lookup → Answer Command
-answer_of_lookup (Found c) = given c
-answer_of_lookup Missing = refused unknown_command
+abbrev pub answer_of_lookup : Result Command UnknownCommand → Answer Command
+answer_of_lookup (Ok c) = given c
+answer_of_lookup (Err unknown) = refused unknown_command
 
 -- the first of these commands that has this code
 unfoldable pub among : List Command → ℕ → Answer Command

@@ -1,13 +1,12 @@
 // The fields of a frame.
-ghost use Rattle.std.specs.Prelude.{◌≡◌, ◌<◌, ◌≤◌, length, replicate};
+ghost use Rattle.std.specs.Prelude.{◌≡◌, ◌<◌, ◌≤◌};
 ghost use Rattle.frame.specs.Sizes.{longest_frame, number_width};
 ghost use Rattle.frame.specs.Content.{value_at, octet_at, fields_of, data_of};
-ghost use Rattle.frame.specs.Checks.{no_fields, answer_of_reading, read_of};
+ghost use Rattle.frame.specs.Checks.{answer_of_reading, read_of};
 
-use crate::checks::{Verdict, inspect};
+use crate::checks::{Fault, inspect};
 use crate::codes::Command;
 use crate::layout::{Presence, layout_of, places_of};
-use crate::order::turn;
 use crate::sizes::{ADDRESS_WIDTH, ADP_AT, ADS_AT, CRC_WIDTH, FIELDS_AT, NUMBER_WIDTH};
 
 // What a frame carries beside its command and DATA. Addresses and numbers are in written order, the most significant octet first;
@@ -22,32 +21,34 @@ pub struct Fields {
     pub announced: [u8; ADDRESS_WIDTH],
 }
 
-// What a slice is as a whole frame, and its fields; they are zero where it is refused.
+// What a good frame in a slice is.
 #[derive(Clone, Copy)]
 pub struct Reading {
-    pub verdict: Verdict,
+    pub command: Command,
     pub fields: Fields,
 }
 
-// The value of a field over zeros, as many as the field has octets.
-fn read_field(value: &mut [u8], frame: &[u8], at: usize, presence: Presence)
-    requires { (at < longest_frame) × ((length value.old ≤ number_width) × (value.old ≡ replicate (length value.old) 0)) }
-    ensures { value.new ≡ value_at presence (length value.old) frame.now at }
+// The value of a field of N octets; zeros where the field carries none. The least significant octet goes over the wire first
+// (004 4.4.8), so reader and builder turn every field of several octets.
+fn value_at<const N: usize>(frame: &[u8], at: usize, presence: Presence) -> [u8; N]
+    requires at_in_frame { at < longest_frame }
+    requires width { N ≤ number_width }
+    ensures { result ≡ value_at presence N frame.now at }
 {
-    match presence {
-        Presence::Absent => {}
-        Presence::Zero => {}
-        Presence::Carried => turn(value, 0, octets::part(frame, at, at + value.len())),
+    let mut value = [0; N];
+    if let Presence::Carried = presence {
+        octets::put_reversed(&mut value, 0, octets::part(frame, at, at + N));
     }
+    value
 }
 
 // The value of a field of one octet.
+#[tactic(auto, unfolding(crate::specs::Content::octet_at))]
 fn octet_at(frame: &[u8], at: usize, presence: Presence) -> u8
     ensures { result ≡ octet_at presence frame.now at }
 {
     match presence {
-        Presence::Absent => 0,
-        Presence::Zero => 0,
+        Presence::Absent | Presence::Zero => 0,
         Presence::Carried => octets::octet(frame, at),
     }
 }
@@ -58,30 +59,13 @@ pub fn fields_of(command: Command, frame: &[u8]) -> Fields
 {
     let layout = layout_of(command);
     let places = places_of(layout);
-    let za2_at = places.za2;
-    let tab_at = places.tab;
-    let announced_at = places.announced;
-    let has_za1 = layout.za1;
-    let has_za2 = layout.za2;
-    let has_tab = layout.tab;
-    let has_announced = layout.announced;
-    let mut ads = [0u8; ADDRESS_WIDTH];
-    let mut za1 = [0u8; NUMBER_WIDTH];
-    let mut za2 = [0u8; NUMBER_WIDTH];
-    let mut announced = [0u8; ADDRESS_WIDTH];
-    read_field(&mut ads, frame, ADS_AT, Presence::Carried);
-    read_field(&mut za1, frame, FIELDS_AT, has_za1);
-    read_field(&mut za2, frame, za2_at.0, has_za2);
-    read_field(&mut announced, frame, announced_at.0, has_announced);
-    let adp = octets::octet(frame, ADP_AT);
-    let tab = octet_at(frame, tab_at.0, has_tab);
     Fields {
-        ads: ads,
-        adp: adp,
-        za1: za1,
-        za2: za2,
-        tab: tab,
-        announced: announced,
+        ads: value_at(frame, ADS_AT, Presence::Carried),
+        adp: octets::octet(frame, ADP_AT),
+        za1: value_at(frame, FIELDS_AT, layout.za1),
+        za2: value_at(frame, places.za2.0, layout.za2),
+        tab: octet_at(frame, places.tab.0, layout.tab),
+        announced: value_at(frame, places.announced.0, layout.announced),
     }
 }
 
@@ -89,48 +73,17 @@ pub fn fields_of(command: Command, frame: &[u8]) -> Fields
 pub fn data_of(command: Command, frame: &[u8]) -> &[u8]
     ensures { result.now ≡ data_of command frame.now }
 {
-    let layout = layout_of(command);
-    let places = places_of(layout);
-    let content = places.content;
-    if frame.len() < CRC_WIDTH {
-        return octets::part(frame, content.0, 0);
-    }
-    octets::part(frame, content.0, frame.len() - CRC_WIDTH)
-}
-
-// Every field zero.
-fn no_fields() -> Fields
-    ensures { result ≡ no_fields }
-{
-    Fields {
-        ads: [0u8; ADDRESS_WIDTH],
-        adp: 0,
-        za1: [0u8; NUMBER_WIDTH],
-        za2: [0u8; NUMBER_WIDTH],
-        tab: 0,
-        announced: [0u8; ADDRESS_WIDTH],
-    }
+    let content = places_of(layout_of(command)).content;
+    octets::part(frame, content.0, frame.len().saturating_sub(CRC_WIDTH))
 }
 
 // A whole frame in a slice.
-pub fn read(frame: &[u8]) -> Reading
+pub fn read(frame: &[u8]) -> Result<Reading, Fault>
     ensures { answer_of_reading result ≡ read_of frame.now }
 {
-    let verdict = inspect(frame);
-    match verdict {
-        Verdict::Good(command) => {
-            let fields = fields_of(command, frame);
-            Reading {
-                verdict: verdict,
-                fields: fields,
-            }
-        }
-        Verdict::Refused(_) => {
-            let fields = no_fields();
-            Reading {
-                verdict: verdict,
-                fields: fields,
-            }
-        }
-    }
+    let command = inspect(frame)?;
+    Ok(Reading {
+        command,
+        fields: fields_of(command, frame),
+    })
 }

@@ -1,7 +1,6 @@
 // What each command's frame has between COM and CRC (01, Frames).
 ghost use Rattle.std.specs.Prelude.{◌≡◌};
-ghost use Rattle.frame.specs.declared.layout.Presence.TheVariants.{Absent, Zero, Carried};
-ghost use Rattle.frame.specs.Layout.{row, layout_of, width, places_of};
+ghost use Rattle.frame.specs.Layout.{layout_of, width, places_of};
 
 use crate::codes::Command;
 use crate::sizes::{
@@ -10,7 +9,7 @@ use crate::sizes::{
 use numbers::Octets;
 
 // Whether a command has a field, and whether the field carries a value or is always zero.
-#[derive(Clone, Copy)]
+#[derive(Clone, Copy, Debug, PartialEq, Eq)]
 pub enum Presence {
     Absent,
     Zero,
@@ -37,78 +36,65 @@ pub struct Places {
     pub content: Octets,
 }
 
-// No field but DATA.
-fn bare(least: usize, most: usize) -> Layout
-    ensures { result ≡ row Absent Absent Absent Absent least most }
-{
-    Layout {
-        za1: Presence::Absent,
-        za2: Presence::Absent,
-        tab: Presence::Absent,
-        announced: Presence::Absent,
-        least: Octets(least),
-        most: Octets(most),
-    }
-}
+// No field and no DATA.
+const BARE: Layout = Layout {
+    za1: Presence::Absent,
+    za2: Presence::Absent,
+    tab: Presence::Absent,
+    announced: Presence::Absent,
+    least: Octets(0),
+    most: Octets(0),
+};
 
-// TAB, perhaps RSO's second ADS, and DATA.
-fn tabbed(announced: Presence, most: usize) -> Layout
-    ensures { result ≡ row Absent Absent Carried announced 0 most }
-{
-    Layout {
-        za1: Presence::Absent,
-        za2: Presence::Absent,
-        tab: Presence::Carried,
-        announced: announced,
-        least: Octets(0),
-        most: Octets(most),
-    }
-}
+// TAB alone.
+const TABBED: Layout = Layout {
+    tab: Presence::Carried,
+    ..BARE
+};
 
-// ZA1, ZA2, perhaps TAB, and DATA.
-fn numbered(za1: Presence, za2: Presence, tab: Presence, most: usize) -> Layout
-    ensures { result ≡ row za1 za2 tab Absent 0 most }
-{
-    Layout {
-        za1: za1,
-        za2: za2,
-        tab: tab,
-        announced: Presence::Absent,
-        least: Octets(0),
-        most: Octets(most),
-    }
-}
-
+#[tactic(auto, unfolding(crate::specs::Layout::layout_of))]
 pub(crate) fn layout_of(command: Command) -> Layout
     ensures { result ≡ layout_of command }
 {
     match command {
-        Command::Enq => tabbed(Presence::Absent, 0),
-        Command::Dat => tabbed(Presence::Absent, MOST_TRANSFERRED),
-        Command::Rec => numbered(
-            Presence::Carried,
-            Presence::Zero,
-            Presence::Carried,
-            MOST_PROGRAMMED,
-        ),
-        Command::Ech => numbered(
-            Presence::Carried,
-            Presence::Carried,
-            Presence::Carried,
-            MOST_PROGRAMMED,
-        ),
-        Command::Aut => numbered(Presence::Zero, Presence::Carried, Presence::Absent, 0),
-        Command::Eos => numbered(Presence::Zero, Presence::Zero, Presence::Absent, 0),
-        Command::Aso => bare(1, MOST_TABS),
-        Command::Rso => tabbed(Presence::Carried, 0),
-        Command::Ib => bare(0, 0),
-        Command::Drj => bare(0, 0),
-        Command::Arj => bare(0, 0),
-        Command::Trf => tabbed(Presence::Absent, MOST_TRANSFERRED),
-        Command::Trb => tabbed(Presence::Absent, MOST_TRANSFERRED),
-        Command::Tra => bare(0, 0),
-        Command::Pre => bare(0, 0),
-        Command::Sel => bare(0, 0),
+        Command::Enq => TABBED,
+        Command::Dat | Command::Trf | Command::Trb => Layout {
+            most: Octets(MOST_TRANSFERRED),
+            ..TABBED
+        },
+        Command::Rec => Layout {
+            za1: Presence::Carried,
+            za2: Presence::Zero,
+            most: Octets(MOST_PROGRAMMED),
+            ..TABBED
+        },
+        Command::Ech => Layout {
+            za1: Presence::Carried,
+            za2: Presence::Carried,
+            most: Octets(MOST_PROGRAMMED),
+            ..TABBED
+        },
+        Command::Aut => Layout {
+            za1: Presence::Zero,
+            za2: Presence::Carried,
+            ..BARE
+        },
+        Command::Eos => Layout {
+            za1: Presence::Zero,
+            za2: Presence::Zero,
+            ..BARE
+        },
+        Command::Aso => Layout {
+            least: Octets(1),
+            most: Octets(MOST_TABS),
+            ..BARE
+        },
+        Command::Rso => Layout {
+            announced: Presence::Carried,
+            ..TABBED
+        },
+        Command::Ib | Command::Drj | Command::Arj | Command::Tra | Command::Pre | Command::Sel =>
+            BARE,
     }
 }
 
@@ -118,26 +104,21 @@ fn width_of(presence: Presence, n: usize) -> usize
 {
     match presence {
         Presence::Absent => 0,
-        Presence::Zero => n,
-        Presence::Carried => n,
+        Presence::Zero | Presence::Carried => n,
     }
 }
 
 pub(crate) fn places_of(layout: Layout) -> Places
     ensures { result ≡ places_of layout }
 {
-    let za1 = layout.za1;
-    let za2 = layout.za2;
-    let tab = layout.tab;
-    let announced = layout.announced;
-    let za2_at = FIELDS_AT + width_of(za1, NUMBER_WIDTH);
-    let tab_at = za2_at + width_of(za2, NUMBER_WIDTH);
-    let announced_at = tab_at + width_of(tab, TAB_WIDTH);
-    let content_at = announced_at + width_of(announced, ADDRESS_WIDTH);
+    let za2 = FIELDS_AT + width_of(layout.za1, NUMBER_WIDTH);
+    let tab = za2 + width_of(layout.za2, NUMBER_WIDTH);
+    let announced = tab + width_of(layout.tab, TAB_WIDTH);
+    let content = announced + width_of(layout.announced, ADDRESS_WIDTH);
     Places {
-        za2: Octets(za2_at),
-        tab: Octets(tab_at),
-        announced: Octets(announced_at),
-        content: Octets(content_at),
+        za2: Octets(za2),
+        tab: Octets(tab),
+        announced: Octets(announced),
+        content: Octets(content),
     }
 }

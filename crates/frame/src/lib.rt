@@ -5,10 +5,9 @@ pub mod checks;
 pub mod codes;
 pub mod content;
 pub mod layout;
-mod order;
 pub mod sizes;
 
-pub use builder::{Built, Refusal, build};
-pub use checks::{Fault, Verdict, inspect, judge};
-pub use codes::Command;
+pub use builder::{Refusal, build};
+pub use checks::{Fault, inspect, judge};
+pub use codes::{Command, UnknownCommand};
 pub use content::{Fields, Reading, data_of, fields_of, read};

@@ -3,11 +3,8 @@
 ghost use Rattle.std.specs.Prelude.{◌≡◌};
 ghost use Rattle.frame_exports.specs.Exported.{build_outcome, read_outcome, fields_from};
 
-use frame::builder::refusal_number;
-use frame::checks::fault_number;
-use frame::codes::{Lookup, command_of};
 use frame::sizes::{ADDRESS_WIDTH, LONGEST_FRAME, MOST_TRANSFERRED, NUMBER_WIDTH};
-use frame::{Built, Fields, Verdict};
+use frame::{Command, Fields, Reading};
 use numbers::table;
 
 // A frame over the front of the buffer: 17, then 4 for a code that names no command, then 7. A refusal leaves buffer and length.
@@ -29,28 +26,23 @@ pub extern "C" fn propolisk_frame_build(
     if buffer.len() < LONGEST_FRAME {
         return table::WRONG_LENGTH;
     }
-    let Lookup::Found(command) = command_of(code) else {
+    let Ok(command) = Command::try_from(code) else {
         return table::UNKNOWN_COMMAND;
     };
-    let its_ads = *ads;
-    let its_za1 = *za1;
-    let its_za2 = *za2;
-    let its_announced = *announced;
     let fields = Fields {
-        ads: its_ads,
-        adp: adp,
-        za1: its_za1,
-        za2: its_za2,
-        tab: tab,
-        announced: its_announced,
+        ads: *ads,
+        adp,
+        za1: *za1,
+        za2: *za2,
+        tab,
+        announced: *announced,
     };
-    let answer = frame::build(buffer, command, fields, data);
-    match answer {
-        Built::Frame(octets) => {
+    match frame::build(buffer, command, fields, data) {
+        Ok(octets) => {
             *length = octets.0;
             table::NONE
         }
-        Built::Refused(refusal) => refusal_number(refusal),
+        Err(refusal) => refusal.number(),
     }
 }
 
@@ -70,12 +62,9 @@ pub extern "C" fn propolisk_frame_read(
 ) -> u8
     ensures { record { number = result; code = code.new; fields = fields_from ads.new adp.new za1.new za2.new tab.new announced.new; content = «data».new; length = length.new } ≡ read_outcome octets.now (record { number = 0; code = code.old; fields = fields_from ads.old adp.old za1.old za2.old tab.old announced.old; content = «data».old; length = length.old }) }
 {
-    let reading = frame::read(octets);
-    let verdict = reading.verdict;
-    match verdict {
-        Verdict::Refused(fault) => fault_number(fault),
-        Verdict::Good(command) => {
-            let fields = reading.fields;
+    match frame::read(octets) {
+        Err(fault) => fault.number(),
+        Ok(Reading { command, fields }) => {
             let its_ads = fields.ads;
             let its_za1 = fields.za1;
             let its_za2 = fields.za2;
@@ -83,7 +72,7 @@ pub extern "C" fn propolisk_frame_read(
             let content = frame::data_of(command, octets);
             octets::put(data, 0, content);
             *length = content.len();
-            *code = frame::codes::code(command);
+            *code = u8::from(command);
             *ads = its_ads;
             *adp = fields.adp;
             *za1 = its_za1;

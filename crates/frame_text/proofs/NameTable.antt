@@ -1,4 +1,4 @@
--- The table of the names, three letters for each code.
+-- The names in the order of their codes, three letters for each.
 use Prim.Native.Nat.{ℕ, ◌+◌, ◌*◌}
 use mathlib.Core.Path.{◌≡◌, refl}
 use mathlib.Core.List.{List, [], ◌∷◌}
@@ -9,7 +9,7 @@ use Rattle.frame.specs.Codes.{code_of}
 use Rattle.frame.proofs.CodeTable.{codes_differ}
 use Rattle.frame_text.specs.Names.{name_of}
 
--- the names as `put_name` has them
+-- the letters of all names; IB has two, and 00 and 0F name no command
 abbrev pub names : List ℕ
 names =
     32 ∷ 32 ∷ 32 ∷ 69 ∷ 78 ∷ 81 ∷ 68 ∷ 65 ∷ 84 ∷ 82 ∷ 69 ∷ 67 ∷ 69 ∷ 67 ∷ 72 ∷ 65 ∷ 85 ∷ 84 ∷ 69 ∷ 79 ∷ 83 ∷ 65 ∷ 83 ∷ 79 ∷ 82 ∷ 83 ∷ 79 ∷ 73 ∷ 66 ∷ 32 ∷ 68 ∷ 82 ∷ 74 ∷ 65 ∷ 82 ∷ 74 ∷ 84 ∷ 82 ∷ 70 ∷ 84 ∷ 82 ∷ 66 ∷ 84 ∷ 82 ∷ 65 ∷ 32 ∷ 32 ∷ 32 ∷ 80 ∷ 82 ∷ 69 ∷ 83 ∷ 69 ∷ 76 ∷ []

@@ -9,8 +9,7 @@ use Rattle.frame.specs.declared.content.Fields.{Fields}
 use Rattle.frame.specs.Content.{fields_of, data_of}
 use Rattle.frame.specs.Checks.{inspected}
 use Rattle.frame_text.specs.declared.items.Item.{Item}
-use Rattle.frame_text.specs.declared.items.Item.TheVariants.{Nothing, Na1, Na1k, Na2, Na2k, Tab, Station, Data, Tabi}
-use Rattle.frame_text.specs.declared.items.Items.{Items}
+use Rattle.frame_text.specs.declared.items.Item.TheVariants.{Na1, Na1k, Na2, Na2k, Tab, Station, Data, Tabi}
 use Rattle.frame_text.specs.Letters.{space, one, two, A, B, D, K, N, P, S, T, i}
 use Rattle.frame_text.specs.Names.{name_of}
 
@@ -21,7 +20,6 @@ data_words (o ∷ d) = (space ∷ D ∷ A ∷ T ∷ A ∷ space ∷ []) ++ hex_t
 
 -- the fields are those of 01, Frames; NA1K and NA2K are the numbers enciphered, TABi is ASO's DATA
 unfoldable pub item_words : Item → Fields → List ℕ → List ℕ
-item_words Nothing f d = []
 item_words Na1 f d = (space ∷ N ∷ A ∷ one ∷ space ∷ []) ++ hex_text f.za1
 item_words Na1k f d = (space ∷ N ∷ A ∷ one ∷ K ∷ space ∷ []) ++ hex_text f.za1
 item_words Na2 f d = (space ∷ N ∷ A ∷ two ∷ space ∷ []) ++ hex_text f.za2
@@ -31,30 +29,28 @@ item_words Station f d = (space ∷ A ∷ D ∷ S ∷ space ∷ []) ++ hex_text 
 item_words Data f d = data_words d
 item_words Tabi f d = (space ∷ T ∷ A ∷ B ∷ i ∷ space ∷ []) ++ hex_text d
 
-abbrev pub row : Item → Item → Item → Item → Items
-row a b c d = record { first = a; second = b; third = c; fourth = d }
-
 -- docs/PROGRAMS.md: which fields a command's words have, in their order
-unfoldable pub items_of : Command → Items
-items_of Enq = row Tab Nothing Nothing Nothing
-items_of Dat = row Tab Data Nothing Nothing
-items_of Rec = row Na1 Tab Data Nothing
-items_of Ech = row Na1k Na2 Tab Data
-items_of Aut = row Na2k Nothing Nothing Nothing
-items_of Eos = row Nothing Nothing Nothing Nothing
-items_of Aso = row Tabi Nothing Nothing Nothing
-items_of Rso = row Tab Station Nothing Nothing
-items_of Ib = row Nothing Nothing Nothing Nothing
-items_of Drj = row Nothing Nothing Nothing Nothing
-items_of Arj = row Nothing Nothing Nothing Nothing
-items_of Trf = row Tab Data Nothing Nothing
-items_of Trb = row Tab Data Nothing Nothing
-items_of Tra = row Nothing Nothing Nothing Nothing
-items_of Pre = row Nothing Nothing Nothing Nothing
-items_of Sel = row Nothing Nothing Nothing Nothing
+unfoldable pub items_of : Command → List Item
+items_of Enq = Tab ∷ []
+items_of Dat = Tab ∷ Data ∷ []
+items_of Rec = Na1 ∷ Tab ∷ Data ∷ []
+items_of Ech = Na1k ∷ Na2 ∷ Tab ∷ Data ∷ []
+items_of Aut = Na2k ∷ []
+items_of Eos = []
+items_of Aso = Tabi ∷ []
+items_of Rso = Tab ∷ Station ∷ []
+items_of Ib = []
+items_of Drj = []
+items_of Arj = []
+items_of Trf = Tab ∷ Data ∷ []
+items_of Trb = Tab ∷ Data ∷ []
+items_of Tra = []
+items_of Pre = []
+items_of Sel = []
 
-unfoldable pub items_words : Items → Fields → List ℕ → List ℕ
-items_words i f d = item_words i.first f d ++ item_words i.second f d ++ item_words i.third f d ++ item_words i.fourth f d
+unfoldable pub items_words : List Item → Fields → List ℕ → List ℕ
+items_words [] f d = []
+items_words (i ∷ l) f d = item_words i f d ++ items_words l f d
 
 -- the command, ADS and ADP
 unfoldable pub head_words : Command → Fields → List ℕ
@@ -85,7 +81,6 @@ most_head_words = 27
 
 -- the most octets that a field's words have
 abbrev pub width_of : Item → ℕ
-width_of Nothing = 0
 width_of Na1 = 21
 width_of Na1k = 22
 width_of Na2 = 21
@@ -95,8 +90,9 @@ width_of Station = 17
 width_of Data = 240
 width_of Tabi = 240
 
-abbrev pub widths : Items → ℕ
-widths i = width_of i.first + width_of i.second + width_of i.third + width_of i.fourth
+unfoldable pub widths : List Item → ℕ
+widths [] = 0
+widths (i ∷ l) = width_of i + widths l
 
 -- with fewer than the most octets left from offset at on, nothing is written and the offset stays
 unfoldable pub frame_end : List ℕ → ℕ → List ℕ → ℕ

@@ -4,11 +4,11 @@ mod items;
 
 ghost use Rattle.std.specs.Prelude.{◌≡◌, ◌+◌, ◌≤◌, length};
 ghost use Rattle.octets.specs.Splice.{spliced};
-ghost use Rattle.text.specs.Text.{offset_after};
+ghost use Rattle.text.specs.Text.{Written};
 ghost use Rattle.frame_text.specs.Names.{name_of};
 ghost use Rattle.frame_text.specs.Words.{most_data, most_words, most_head_words, head_words, words_of, frame_end, frame_over};
 
-use frame::{Command, Fields, Verdict};
+use frame::{Command, Fields, Reading};
 use items::{items_of, put_items};
 use numbers::Octets;
 use text::{put_hex, put_words};
@@ -21,17 +21,12 @@ pub const MOST_WORDS: usize = 320;
 pub fn put_frame(buffer: &mut [u8], at: Octets, frame: &[u8]) -> Octets
     ensures { (result.0 ≡ frame_end buffer.old at.0 frame.now) × (buffer.new ≡ frame_over buffer.old at.0 frame.now) }
 {
-    if buffer.len() < MOST_WORDS {
+    if buffer.len() < MOST_WORDS || buffer.len() - MOST_WORDS < at.0 {
         return at;
     }
-    if buffer.len() - MOST_WORDS < at.0 {
-        return at;
-    }
-    let verdict = frame::inspect(frame);
-    let Verdict::Good(command) = verdict else {
+    let Ok(Reading { command, fields }) = frame::read(frame) else {
         return at;
     };
-    let fields = frame::fields_of(command, frame);
     put_whole(buffer, at, command, fields, frame::data_of(command, frame))
 }
 
@@ -47,21 +42,33 @@ fn put_whole(buffer: &mut [u8], at: Octets, command: Command, fields: Fields, da
 // The command, ADS and ADP.
 fn put_head(buffer: &mut [u8], at: Octets, command: Command, fields: Fields) -> Octets
     requires { at.0 + most_head_words ≤ length buffer.old }
-    ensures { (result.0 ≡ offset_after buffer.old at.0 (head_words command fields)) × (buffer.new ≡ spliced buffer.old at.0 (head_words command fields)) }
+    ensures { Written buffer.old at.0 (head_words command fields) result.0 buffer.new }
 {
-    let ads = fields.ads;
-    let ads_at = put_name(buffer, at, command);
-    let adp_at = put_hex(buffer, ads_at, b" ADS ", &ads);
+    let ads_at = put_words(buffer, at, name_of(command));
+    let adp_at = put_hex(buffer, ads_at, b" ADS ", &fields.ads);
     put_hex(buffer, adp_at, b" ADP ", &[fields.adp])
 }
 
-// The names stand in the order of the codes, three letters for each from 00 on; no command has the codes 00 and 0F.
-fn put_name(buffer: &mut [u8], at: Octets, command: Command) -> Octets
-    ensures { (result.0 ≡ offset_after buffer.old at.0 (name_of command)) × (buffer.new ≡ spliced buffer.old at.0 (name_of command)) }
+#[tactic(auto, unfolding(crate::specs::Names::name_of))]
+fn name_of(command: Command) -> &'static [u8]
+    ensures { result.now ≡ name_of command }
 {
-    let names = b"   ENQDATRECECHAUTEOSASORSOIB DRJARJTRFTRBTRA   PRESEL";
-    let code = frame::codes::code(command) as usize;
-    let from = 3 * code;
-    let letters = if code == 9 { 2 } else { 3 };
-    put_words(buffer, at, octets::part(names, from, from + letters))
+    match command {
+        Command::Enq => b"ENQ",
+        Command::Dat => b"DAT",
+        Command::Rec => b"REC",
+        Command::Ech => b"ECH",
+        Command::Aut => b"AUT",
+        Command::Eos => b"EOS",
+        Command::Aso => b"ASO",
+        Command::Rso => b"RSO",
+        Command::Ib => b"IB",
+        Command::Drj => b"DRJ",
+        Command::Arj => b"ARJ",
+        Command::Trf => b"TRF",
+        Command::Trb => b"TRB",
+        Command::Tra => b"TRA",
+        Command::Pre => b"PRE",
+        Command::Sel => b"SEL",
+    }
 }

@@ -18,7 +18,8 @@ use Rattle.receiver.specs.declared.Receiver.{Receiver}
 use Rattle.receiver.specs.Receiving.{Reception, awaiting, skipping, partial, Outcome, silent_outcome, dropped_outcome, complete_outcome, to, begun, grown, judged_outcome, verdict_on, on_octet, WholeFrame}
 use Rattle.receiver.specs.Receiver.{most_held, Sound, reception_of, Response, answer_to, frame_of, no_frame, after_octet}
 use Rattle.receiver.proofs.Growth.{first_snoc}
-use Rattle.receiver.proofs.Fronts.{length_snoc, front_first}
+use Rattle.std.proofs.lemmas.List.{length_push}
+use Rattle.receiver.proofs.Fronts.{front_first}
 use Rattle.receiver.proofs.Soundness.{Partly, SoundReception, reception_sound}
 use Rattle.receiver.proofs.Follows.{octet_follows}
 use Rattle.receiver.proofs.Frames.{whole_inspected}
@@ -61,7 +62,7 @@ grown_good s c f = go (ltb (length s) (get_or s 0 0)) refl
 snoc_whole : (s : List ℕ) (o : ℕ) → Partly s → get_or (s ++ (o ∷ [])) 0 0 ≤ length (s ++ (o ∷ [])) → WholeFrame (s ++ (o ∷ []))
 snoc_whole s o t h =
     let n = first_snoc s o t.some in
-    let l = length_snoc s o in
+    let l = length_push s o in
     record { least = omega (arith, t.unfinished); most = omega (arith, t.unfinished); stated = omega (arith, t.unfinished) }
 
 pub completes : (h : Reception) (o : ℕ) (c : Command) (f : List ℕ) → SoundReception h → (on_octet o h).outcome ≡ complete_outcome c f → Arrived h o c f

@@ -17,7 +17,7 @@ use Rattle.receiver.specs.declared.Receiver.{Receiver}
 use Rattle.receiver.specs.Receiving.{Reception, awaiting, skipping, partial, Outcome, silent_outcome, dropped_outcome, complete_outcome, Step, to, begun, grown, judged_outcome, verdict_on, on_octet, on_gap, on_session_end}
 use Rattle.receiver.specs.Receiver.{most_held, Sound, sound, reception_of, answer_to, Response, stepped, broken, answered_by, after_octet, after_gap, after_session_end}
 use Rattle.octets.proofs.Impossible.{impossible}
-use Rattle.receiver.proofs.Fronts.{length_snoc}
+use Rattle.std.proofs.lemmas.List.{length_push}
 use Rattle.receiver.proofs.Growth.{first_snoc}
 use Rattle.receiver.proofs.Stated.{stated_range}
 use Rattle.receiver.proofs.Soundness.{Partly, SoundReception, test_sound, sound_test, reception_sound, holding-sound, holding_long, holding_narrow, holding_reception}
@@ -118,7 +118,7 @@ grown-sound s o t = go (ltb (length (s ++ (o ∷ []))) (get_or (s ++ (o ∷ []))
     go : (b : Bool) → ltb (length (s ++ (o ∷ []))) (get_or (s ++ (o ∷ [])) 0 0) ≡ b → SoundReception (cond b (to (partial (s ++ (o ∷ []))) silent_outcome) (to awaiting (verdict_on (s ++ (o ∷ []))))).next
     go true e =
         record {
-          some = omega (arith, length_snoc s o);
+          some = omega (arith, length_push s o);
           unfinished = record { least = rw first t.unfinished.least; most = rw first t.unfinished.most; short = ltb-true _ _ e };
         }
     go false e = tt

@@ -12,7 +12,7 @@ use Rattle.numbers.specs.Answer.{given, refused, when_given}
 use Rattle.frame.specs.Checks.{stated_by, judged, inspected, inspected_as}
 use Rattle.frame.proofs.GoodFrame.{inspected_good}
 use Rattle.receiver.specs.Receiving.{Reception, awaiting, skipping, partial, Outcome, silent_outcome, dropped_outcome, complete_outcome, Course, leading_with, to, begun, judged_outcome, verdict_on, on_octet, on_octets, WholeFrame}
-use Rattle.receiver.proofs.Fronts.{length_snoc}
+use Rattle.std.proofs.lemmas.List.{length_push}
 use Rattle.receiver.proofs.Growth.{grown_more, grown_whole, first_snoc}
 use Rattle.receiver.proofs.Stated.{stated_whole}
 
@@ -34,10 +34,10 @@ rest_of_frame : (t : List ℕ) (s : List ℕ) (o : ℕ) → 0 < length s → get
 unfolding on_octets on_octet
 rest_of_frame [] s o p e =
     let n = first_snoc s o p in
-    rw (grown_whole (s ++ (o ∷ [])) (omega (arith, length_snoc s o)))
+    rw (grown_whole (s ++ (o ∷ [])) (omega (arith, length_push s o)))
 rest_of_frame (q ∷ t) s o p e =
     let n = first_snoc s o p in
-    let l = length_snoc s o in
+    let l = length_push s o in
     let next = step o (q ∷ t) (partial s) (partial (s ++ (o ∷ []))) silent_outcome (grown_more (s ++ (o ∷ [])) (omega arith)) in
     let rest = rest_of_frame t (s ++ (o ∷ [])) q (omega arith) (omega arith) in
     next ∙ ap (leading_with silent_outcome) (rw (append_snoc s o (q ∷ t)) at rest)

@@ -1,20 +1,18 @@
 -- One element more after the front of a list, and what a list's own front leaves.
-use Prim.Native.Nat.{ℕ, suc, ◌+◌, ◌≤◌, ◌<◌}
+use Prim.Native.Nat.{ℕ, suc, ◌≤◌, ◌<◌}
 use mathlib.Core.Path.{◌≡◌}
 use mathlib.Core.List.{List, [], ◌∷◌, ◌++◌}
 use native.Mathlib.Numerals.{add-one}
 use native.Mathlib.Omega.{arith}
-use lib.ListN.{length, take, drop, get_or, set, length-append, take-append-drop, get_or-append}
+use lib.ListN.{length, take, drop, get_or, set, take-append-drop, get_or-append}
 use lib.Seq.{append_snoc, drop-cons, length-take-le, set-append_seam}
+use Rattle.std.proofs.lemmas.List.{length_push}
 use Rattle.octets.specs.Splice.{fronted}
-
-pub length_snoc : (s : List ℕ) (o : ℕ) → length (s ++ (o ∷ [])) ≡ length s + 1
-length_snoc s o = length-append s (o ∷ [])
 
 pub front_next : (s m : List ℕ) (o : ℕ) → length s < length m → set (fronted s m) (length s) o ≡ fronted (s ++ (o ∷ [])) m
 unfolding fronted
 front_next s m o h =
-    rw (length_snoc, add-one, append_snoc, drop-cons m (length s) 0 h)
+    rw (length_push, add-one, append_snoc, drop-cons m (length s) 0 h)
     (set-append_seam s (get_or m (length s) 0) (drop (suc (length s)) m) o)
 
 pub own_front : (n : ℕ) (l : List ℕ) → n ≤ length l → fronted (take n l) l ≡ l

@@ -7,13 +7,14 @@ use native.Mathlib.Omega.{arith}
 use lib.ListN.{length, take, get_or, set, get_or-append}
 use lib.Seq.{get_or-take, length-take-le}
 use borrow.Author.Tests.{lt-ltb, le-ltb}
+use Rattle.std.proofs.lemmas.List.{length_push}
 use Rattle.octets.specs.Splice.{spliced, fronted}
-use Rattle.octets.proofs.Splice.{spliced_front, length-fronted, take-fronted}
+use Rattle.octets.proofs.Splice.{spliced_front, take-fronted}
 use Rattle.frame.specs.Sizes.{longest_frame}
 use Rattle.receiver.specs.declared.Receiver.{Receiver}
 use Rattle.receiver.specs.Receiving.{awaiting, partial, silent_outcome, to, grown, verdict_on}
 use Rattle.receiver.specs.Receiver.{held_with, holding, no_frame}
-use Rattle.receiver.proofs.Fronts.{length_snoc, front_next, store_next}
+use Rattle.receiver.proofs.Fronts.{front_next, store_next}
 
 pub grown_more : (s : List ℕ) → length s < get_or s 0 0 → grown s ≡ to (partial s) silent_outcome
 unfolding grown
@@ -33,13 +34,10 @@ module _ (n : ℕ) (l : List ℕ) (o : ℕ) (within : n ≤ length l) where
   held = length-take-le n l within
 
   pub length_held : length (take n l ++ (o ∷ [])) ≡ n + 1
-  length_held = rw (length_snoc, held)
+  length_held = rw (length_push, held)
 
   pub first_held : 0 < n → get_or (take n l ++ (o ∷ [])) 0 0 ≡ get_or l 0 0
   first_held p = first_snoc (take n l) o (rw held p) ∙ get_or-take n l 0 0 p
-
-  pub whole_length : n < longest_frame → length (fronted (take n l ++ (o ∷ [])) no_frame) ≡ longest_frame
-  whole_length h = length-fronted (take n l ++ (o ∷ [])) no_frame (rw length_held (omega arith))
 
   pub whole_front : take (n + 1) (fronted (take n l ++ (o ∷ [])) no_frame) ≡ take n l ++ (o ∷ [])
   whole_front = rw (← length_held) (take-fronted (take n l ++ (o ∷ [])) no_frame)

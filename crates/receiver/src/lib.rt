@@ -8,15 +8,16 @@ ghost use Rattle.frame.specs.Checks.{stated_by};
 ghost use Rattle.receiver.specs.Receiving.{awaiting, partial, to, begun, verdict_on, grown};
 ghost use Rattle.receiver.specs.Receiver.{Unfinished, answer_of_event, answer_of_received, most_held, fresh, stated_n, sound, held_with, holding, stepped, no_frame, after_octet, after_gap, after_session_end};
 
-use frame::checks::{Stated, fault_number, stated_by};
+use frame::checks::stated_by;
 use frame::sizes::LONGEST_FRAME;
-use frame::{Command, Fault, Verdict, judge};
+use frame::{Command, Fault, judge};
 use numbers::{Octets, table};
 
 // The most octets of a partly received frame: one less than the longest frame has. `specs/Receiver.antt` has the same name.
 pub const MOST_HELD: usize = 127;
 
 // The octets of a partly received frame, N first. Those at and past the count are free.
+// The mark stands beside the count, since a receiver that skips may hold octets (`sound`, `reception_of`).
 #[derive(Clone, Copy)]
 pub struct Receiver {
     pub skipping: bool,
@@ -25,7 +26,8 @@ pub struct Receiver {
 }
 
 // What an octet, a gap or a session end gives.
-#[derive(Clone, Copy)]
+// An enum of its own: 01 asks for one that holds the command of a frame.
+#[derive(Clone, Copy, Debug, PartialEq, Eq)]
 pub enum Event {
     Nothing,
     Bad(Fault),
@@ -47,9 +49,8 @@ impl Event {
         ensures { result ≡ number_of (answer_of_event self) }
     {
         match self {
-            Event::Nothing => table::NONE,
-            Event::Bad(fault) => fault_number(fault),
-            Event::Good(_) => table::NONE,
+            Event::Nothing | Event::Good(_) => table::NONE,
+            Event::Bad(fault) => fault.number(),
             Event::Refused => table::BROKEN_RULE,
         }
     }
@@ -60,21 +61,21 @@ fn answer(receiver: Receiver, event: Event) -> Received
     ensures { answer_of_received result ≡ record { receiver = receiver; answer = answer_of_event event; frame = no_frame } }
 {
     Received {
-        receiver: receiver,
-        event: event,
-        frame: [0u8; LONGEST_FRAME],
+        receiver,
+        event,
+        frame: [0; LONGEST_FRAME],
     }
 }
 
 impl Receiver {
     // An empty receiver.
-    pub fn new() -> Receiver
+    pub fn new() -> Self
         ensures { result ≡ fresh }
     {
         Receiver {
             skipping: false,
             count: Octets(0),
-            octets: [0u8; MOST_HELD],
+            octets: [0; MOST_HELD],
         }
     }
 
@@ -82,17 +83,9 @@ impl Receiver {
     pub fn is_sound(self) -> bool
         ensures { result ≡ sound self }
     {
-        if self.skipping {
-            return true;
-        }
-        let count = self.count;
-        if count.0 == 0 {
-            return true;
-        }
-        let Stated::Whole(whole) = stated_by(self.octets[0]) else {
-            return false;
-        };
-        count.0 < whole.0
+        self.skipping
+            || self.count.0 == 0
+            || stated_by(self.octets[0]).is_some_and(|whole| self.count.0 < whole.0)
     }
 
     // 1 at an N out of range; 2, 4 or 5 where a bad frame is complete with this octet.
@@ -105,8 +98,7 @@ impl Receiver {
         if self.skipping {
             return answer(self, Event::Nothing);
         }
-        let count = self.count;
-        if count.0 == 0 {
+        if self.count.0 == 0 {
             return self.begin(octet);
         }
         self.extend(octet)
@@ -119,15 +111,10 @@ impl Receiver {
         if !self.is_sound() {
             return answer(self, Event::Refused);
         }
-        let next = self.empty();
-        if self.skipping {
-            return answer(next, Event::Nothing);
+        if self.skipping || self.count.0 == 0 {
+            return answer(self.empty(), Event::Nothing);
         }
-        let count = self.count;
-        if count.0 == 0 {
-            return answer(next, Event::Nothing);
-        }
-        answer(next, Event::Bad(Fault::Cut))
+        answer(self.empty(), Event::Bad(Fault::Cut))
     }
 
     // No number, whatever was held; after it the next octet is an N.
@@ -141,30 +128,26 @@ impl Receiver {
     }
 
     // The next octet is an N.
-    fn empty(self) -> Receiver
+    fn empty(self) -> Self
         ensures { result ≡ holding awaiting self }
     {
-        let octets = self.octets;
         Receiver {
             skipping: false,
             count: Octets(0),
-            octets: octets,
+            ..self
         }
     }
 
     // One octet more of a frame that is not complete with it.
-    fn hold(self, octet: u8) -> Receiver
+    fn hold(mut self, octet: u8) -> Self
         requires { self.count.0 < most_held }
         ensures { result ≡ holding (partial (held_with self octet)) self }
     {
-        let count = self.count;
-        let at = count.0;
-        let mut octets = self.octets;
-        octets[at] = octet;
+        self.octets[self.count.0] = octet;
         Receiver {
             skipping: false,
-            count: Octets(at + 1),
-            octets: octets,
+            count: Octets(self.count.0 + 1),
+            ..self
         }
     }
 
@@ -173,9 +156,11 @@ impl Receiver {
         requires { self.count.0 ≡ 0 }
         ensures { answer_of_received result ≡ stepped self (begun (stated_by octet) octet) }
     {
-        let Stated::Whole(_) = stated_by(octet) else {
-            let mut next = self;
-            next.skipping = true;
+        let Some(_) = stated_by(octet) else {
+            let next = Receiver {
+                skipping: true,
+                ..self
+            };
             return answer(next, Event::Bad(Fault::OutOfRange));
         };
         answer(self.hold(octet), Event::Nothing)
@@ -186,9 +171,8 @@ impl Receiver {
         requires { (0 < self.count.0) × Unfinished self.count.0 (stated_n self) }
         ensures { answer_of_received result ≡ stepped self (grown (held_with self octet)) }
     {
-        let count = self.count;
-        let whole = self.octets[0] as usize;
-        if count.0 + 1 < whole {
+        let whole = usize::from(self.octets[0]);
+        if self.count.0 + 1 < whole {
             answer(self.hold(octet), Event::Nothing)
         } else {
             self.complete(octet)
@@ -200,11 +184,9 @@ impl Receiver {
         requires { self.count.0 < longest_frame }
         ensures { result ≡ fronted (held_with self octet) no_frame }
     {
-        let count = self.count;
-        let end = count.0;
-        let octets = self.octets;
-        let mut frame = [0u8; LONGEST_FRAME];
-        octets::put(&mut frame, 0, &octets[..end]);
+        let end = self.count.0;
+        let mut frame = [0; LONGEST_FRAME];
+        octets::put(&mut frame, 0, &self.octets[..end]);
         frame[end] = octet;
         frame
     }
@@ -214,18 +196,15 @@ impl Receiver {
         requires { self.count.0 < longest_frame }
         ensures { answer_of_received result ≡ stepped self (to awaiting (verdict_on (held_with self octet))) }
     {
-        let count = self.count;
-        let end = count.0 + 1;
         let frame = self.whole(octet);
-        let verdict = judge(&frame[..end]);
-        let next = self.empty();
-        match verdict {
-            Verdict::Good(command) => Received {
-                receiver: next,
+        let receiver = self.empty();
+        match judge(&frame[..self.count.0 + 1]) {
+            Ok(command) => Received {
+                receiver,
                 event: Event::Good(command),
-                frame: frame,
+                frame,
             },
-            Verdict::Refused(fault) => answer(next, Event::Bad(fault)),
+            Err(fault) => answer(receiver, Event::Bad(fault)),
         }
     }
 }

@@ -1,9 +1,9 @@
 #![tactic(auto)]
 // A receiver in lent memory: its mark, its count and the octets of a partly received frame (docs/MEMORY.md).
-ghost use Rattle.std.specs.Prelude.{◌≡◌, replicate};
+ghost use Rattle.std.specs.Prelude.{◌≡◌};
 ghost use Rattle.octets.specs.Splice.{spliced};
 ghost use Rattle.receiver_memory.specs.Fields.{mark_of, narrowed};
-ghost use Rattle.receiver_memory.specs.Receiver.{most_held, decoded, image};
+ghost use Rattle.receiver_memory.specs.Receiver.{decoded, image};
 
 use numbers::Octets;
 use receiver::{MOST_HELD, Receiver};
@@ -21,36 +21,25 @@ pub const SIZE: usize = OCTETS_AT + MOST_HELD;
 pub fn mark_of(set: bool) -> u8
     ensures { result ≡ mark_of set }
 {
-    if set { 1 } else { 0 }
+    u8::from(set)
 }
 
 // A number as an octet: 255, which is over every limit, where it is larger.
 pub fn narrowed(number: usize) -> u8
     ensures { result ≡ narrowed number }
 {
-    if number < 255 { number as u8 } else { 255 }
-}
-
-// The octets of s in an array as long as can be held, with zeros after them; zeros alone where there are more.
-fn held(s: &[u8]) -> [u8; MOST_HELD]
-    ensures { result ≡ spliced (replicate most_held 0) 0 s.now }
-{
-    let mut a = [0u8; MOST_HELD];
-    octets::put(&mut a, 0, s);
-    a
+    u8::try_from(number).unwrap_or(u8::MAX)
 }
 
 // The receiver that the octets of one hold.
+#[tactic(auto, unfolding(crate::specs::Receiver::decoded, crate::specs::Fields::field_at))]
 pub fn decode(part: &[u8]) -> Receiver
     ensures { result ≡ decoded part.now }
 {
-    let mark = octets::octet(part, MARK_AT);
-    let count = octets::octet(part, COUNT_AT);
-    let octets = held(octets::part(part, OCTETS_AT, SIZE));
     Receiver {
-        skipping: mark == 1,
-        count: Octets(count as usize),
-        octets: octets,
+        skipping: octets::octet(part, MARK_AT) == 1,
+        count: Octets(usize::from(octets::octet(part, COUNT_AT))),
+        octets: octets::padded(octets::part(part, OCTETS_AT, SIZE)),
     }
 }
 
@@ -58,11 +47,9 @@ pub fn decode(part: &[u8]) -> Receiver
 pub fn encode(memory: &mut [u8], at: usize, receiver: Receiver)
     ensures { memory.new ≡ spliced memory.old at (image receiver) }
 {
-    let octets = receiver.octets;
-    let count = receiver.count;
-    let mut image = [0u8; SIZE];
+    let mut image = [0; SIZE];
     image[MARK_AT] = mark_of(receiver.skipping);
-    image[COUNT_AT] = narrowed(count.0);
-    octets::put(&mut image, OCTETS_AT, &octets);
+    image[COUNT_AT] = narrowed(receiver.count.0);
+    octets::put(&mut image, OCTETS_AT, &receiver.octets);
     octets::put(memory, at, &image);
 }

@@ -6,14 +6,10 @@ pub returns-then-buffer-lt-LONGEST_FRAME : goal.returns-then-buffer-lt-LONGEST_F
 returns-then-buffer-lt-LONGEST_FRAME c = build_short _ _ _ _ _ c.if-buffer-lt-LONGEST_FRAME.true
 
 pub returns-in_default : goal.returns-in_default
-returns-in_default c = build_unknown _ _ _ _ _ _ c.command_of.ensures c.if-buffer-lt-LONGEST_FRAME.false c.in_default.is
+returns-in_default c = build_unknown _ _ _ _ _ _ c.try_from.ensures _ c.if-buffer-lt-LONGEST_FRAME.false c.in_default.is
 
-pub returns-in-Frame : goal.returns-in-Frame
-returns-in-Frame c = let b = c in
-    let e = b in
-    build_framed _ _ _ _ _ _ e.command_of.ensures _ _ _ e.if-buffer-lt-LONGEST_FRAME.false e.in-Found.is b.build-answer.ensures.0 b.build-answer.ensures.1 _ c.in-Frame.is
+pub returns-in-Ok-build : goal.returns-in-Ok-build
+returns-in-Ok-build c = build_framed _ _ _ _ _ _ c.try_from.ensures _ _ _ c.if-buffer-lt-LONGEST_FRAME.false c.in-Ok.is c.build.ensures.0 c.build.ensures.1 _ c.in-Ok-build.is
 
-pub returns-in-Refused : goal.returns-in-Refused
-returns-in-Refused c = let b = c in
-    let e = b in
-    build_refused _ _ _ _ _ _ e.command_of.ensures _ _ _ e.if-buffer-lt-LONGEST_FRAME.false e.in-Found.is b.build-answer.ensures.0 b.build-answer.ensures.1 _ _ c.in-Refused.is c.refusal_number.ensures
+pub returns-in-Err : goal.returns-in-Err
+returns-in-Err c = build_refused _ _ _ _ _ _ c.try_from.ensures _ _ _ c.if-buffer-lt-LONGEST_FRAME.false c.in-Ok.is c.build.ensures.0 c.build.ensures.1 _ _ c.in-Err.is c.number.ensures

@@ -11,9 +11,8 @@ use Rattle.frame_text.proofs.put_head.Goals as goal
 
 pub returns : goal.returns
 unfolding head_words
-returns c = let s = c in
-    let f = s.args.fields in
-    let shape = shaped f _ s.well_formed.1.1.1.0 in
-    joined _ _ _ _ _ _ _ _ (rw length-append (omega (arith, name_most s.args.command, length_hex f.ads, shape.ads_long, length_hex (f.adp ∷ []), s.requires)))
-    (joined _ _ _ _ _ _ _ _ (omega (arith, name_most s.args.command, length_hex f.ads, shape.ads_long, s.requires)) c.put_name-ads_at.ensures c.put_hex-adp_at.ensures)
+returns c = let f = c.args.fields in
+    let shape = shaped f _ c.well_formed.1.1.1.0 in
+    joined _ _ _ _ _ _ _ _ (rw length-append (omega (arith, name_most c.args.command, length_hex f.ads, shape.ads_long, length_hex (f.adp ∷ []), c.requires)))
+    (joined _ _ _ _ _ _ _ _ (omega (arith, name_most c.args.command, length_hex f.ads, shape.ads_long, c.requires)) (rw c.name_of.ensures at c.put_words-ads_at.ensures) c.put_hex-adp_at.ensures)
     c.put_hex.ensures

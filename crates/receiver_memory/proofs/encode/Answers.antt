@@ -10,10 +10,7 @@ use Rattle.receiver_memory.proofs.encode.Goals as goal
 
 pub returns : goal.returns
 unfolding image
-returns c = let q = c in
-    let p = q in
-    let w = p in
-    let s = c in
-    let r = s.args.receiver in
-    let long = octets_length r _ s.well_formed.1.1.0 in
-    rw (q.put-2.ensures, p.put.ensures, w.narrowed.ensures, w.mark_of.ensures, after_front (mark_of r.skipping ∷ narrowed r.count.0 ∷ []) (replicate most_held 0) r.octets (sym long))
+returns c =
+    let r = c.args.receiver in
+    let long = octets_length r _ c.well_formed.1.1.0 in
+    rw (c.put-2.ensures, c.put.ensures, c.narrowed.ensures, c.mark_of.ensures, after_front (mark_of r.skipping ∷ narrowed r.count.0 ∷ []) (replicate most_held 0) r.octets (sym long))

@@ -1,49 +1,43 @@
--- `build` meets its contract: the two checks' answers are the tests of `built`, in its order.
-use mathlib.Core.Path.{refl}
-use lib.Dec.{leb}
+-- `build` meets its contract: the two tests are those of `built`, in its order.
+use mathlib.Core.Path.{◌≡◌, refl, sym, ◌∙◌}
 use lib.ListN.{length}
-use borrow.Author.Tests.{leb-true}
+use borrow.Author.Tests.{lt-leb, le-leb}
 use Rattle.frame.specs.Sizes.{longest_frame}
 use Rattle.frame.specs.Layout.{within}
 use Rattle.frame.specs.Building.{built}
-use Rattle.frame.proofs.Told.{told_first, told_second, capacities_differ, amounts_differ}
-use Rattle.frame.proofs.Widths.{within_bounds}
+use Rattle.frame.proofs.Widths.{range_between, within_bounds}
 use Rattle.frame.proofs.builder.build.Goals as goal
+use Rattle.frame.proofs.builder.build.Goals.{After-contains}
 
-pub returns-in_default : goal.returns-in_default
+pub returns-then-buffer-lt-LONGEST_FRAME : goal.returns-then-buffer-lt-LONGEST_FRAME
 unfolding built
-returns-in_default c = rw (told_second capacities_differ (leb longest_frame _) c.check_capacity.ensures c.in_default.is) (refl, refl)
+returns-then-buffer-lt-LONGEST_FRAME c = rw (lt-leb longest_frame _ c.if-buffer-lt-LONGEST_FRAME.true) (refl, refl)
 
-pub returns-in_default-check_amount : goal.returns-in_default-check_amount
+told : (c : After-contains) → c.contains.result ≡ within c.layout_of-layout.result (length c.args.«data».now)
+unfolding within
+told c = let new = c.new.ensures in
+    let l = c.layout_of-layout.result in
+    rw (c.contains.ensures.value, new.exhausted, new.start, new.end) (range_between l.least.0 l.most.0 (length c.args.«data».now))
+
+pub returns-then-not-contains : goal.returns-then-not-contains
 unfolding built
-returns-in_default-check_amount c = let m = c in
-    let r = m in
-    rw (
-      told_first capacities_differ (leb longest_frame _) r.check_capacity.ensures r.in-Enough.is,
-      ← m.layout_of-layout.ensures,
-      told_second amounts_differ (within _ _) m.check_amount.ensures c.in_default-check_amount.is,
-    )
+returns-then-not-contains c = rw (
+  le-leb longest_frame _ c.if-buffer-lt-LONGEST_FRAME.false,
+  ← c.layout_of-layout.ensures,
+  sym (told (goal.at.returns-then-not-contains c).After-contains) ∙ c.if-not-contains.true,
+)
     (refl, refl)
 
-pub write-whole-requires : goal.write-whole-requires
-write-whole-requires c = let m = c in
-    let r = m in
-    let s = r in
-    let l = m.layout_of-layout in
-    let capacity = told_first capacities_differ (leb longest_frame (length s.args.buffer.now)) r.check_capacity.ensures r.in-Enough.is in
-    let amount = told_first amounts_differ (within l.result (length s.args.«data».now)) m.check_amount.ensures c.in-Within.is in
-    (leb-true longest_frame _ capacity, rw (← l.ensures) (within_bounds l.result _ amount).1)
+pub write-requires : goal.write-requires
+write-requires c = (c.if-buffer-lt-LONGEST_FRAME.false, rw (← c.layout_of-layout.ensures) (within_bounds c.layout_of-layout.result _ (sym (told (goal.at.write-requires c).After-contains) ∙ c.if-not-contains.false)).1)
 
 pub returns : goal.returns
 unfolding built
-returns c = let w = c.write-whole in
-    let m = c in
-    let r = m in
-    rw (
-      w.ensures.0,
-      w.ensures.1,
-      told_first capacities_differ (leb longest_frame _) r.check_capacity.ensures r.in-Enough.is,
-      ← m.layout_of-layout.ensures,
-      told_first amounts_differ (within _ _) m.check_amount.ensures c.in-Within.is,
-    )
+returns c = rw (
+  c.write.ensures.0,
+  c.write.ensures.1,
+  le-leb longest_frame _ c.if-buffer-lt-LONGEST_FRAME.false,
+  ← c.layout_of-layout.ensures,
+  sym (told (goal.at.returns c).After-contains) ∙ c.if-not-contains.false,
+)
     (refl, refl)

@@ -6,8 +6,6 @@ use Rattle.frame.proofs.Writing.{head_made}
 use Rattle.frame.proofs.builder.put_head.Goals as goal
 
 pub returns : goal.returns
-returns c = let p = c in
-    let t = p in
-    let a = t.args in
+returns c = let a = c.args in
     let six : length a.ads ≡ 6 = search rules in
-    rw (p.put.ensures, t.turn.ensures, head_made a.n a.ads a.adp a.command six)
+    rw (c.put.ensures, c.put_reversed.ensures, head_made a.n a.ads a.adp a.command six)

@@ -1,17 +1,22 @@
--- `stated_by` meets its contract: the two tests are the cases of `stated_by`.
-use Rattle.octets.proofs.Bounds.{between_both, between_below, between_above}
+-- `stated_by` meets its contract: the test is the one of `stated_by`.
+use mathlib.Core.Path.{◌≡◌, refl}
+use mathlib.Core.Bool.{Bool, true, false, cond}
+use Rattle.std.specs.Bool.{then_some}
+use Rattle.numbers.specs.Table.{length_out_of_range}
+use Rattle.numbers.specs.Answer.{given, refused}
+use Rattle.numbers.specs.declared.Octets.{Octets}
+use Rattle.octets.specs.Between.{between}
 use Rattle.frame.specs.Sizes.{shortest_frame, longest_frame}
-use Rattle.frame.specs.Checks.{stated_by}
+use Rattle.frame.specs.Checks.{answer_of_stated, stated_by}
+use Rattle.frame.proofs.Widths.{range_between}
 use Rattle.frame.proofs.checks.stated_by.Goals as goal
 
-pub returns-then-whole-lt-SHORTEST_FRAME : goal.returns-then-whole-lt-SHORTEST_FRAME
-unfolding stated_by
-returns-then-whole-lt-SHORTEST_FRAME c = rw (between_below shortest_frame longest_frame _ c.if-whole-lt-SHORTEST_FRAME.true)
-
-pub returns-then-whole-gt-LONGEST_FRAME : goal.returns-then-whole-gt-LONGEST_FRAME
-unfolding stated_by
-returns-then-whole-gt-LONGEST_FRAME c = rw (between_above shortest_frame longest_frame _ c.if-whole-gt-LONGEST_FRAME.true)
+answered : (b : Bool) (n : Octets) → answer_of_stated (then_some b n) ≡ cond b (given n) (refused length_out_of_range)
+answered true n = refl
+answered false n = refl
 
 pub returns : goal.returns
 unfolding stated_by
-returns c = rw (between_both shortest_frame longest_frame _ c.if-whole-lt-SHORTEST_FRAME.false c.if-whole-gt-LONGEST_FRAME.false)
+returns c = let new = c.new.ensures in
+    let told : c.contains.result ≡ between shortest_frame longest_frame c.from-whole.result = rw (c.contains.ensures.value, new.exhausted, new.start, new.end) (range_between shortest_frame longest_frame c.from-whole.result) in
+    rw (c.then_some.ensures, told, c.from-whole.ensures) (answered _ _)

@@ -5,11 +5,8 @@ use Rattle.receiver.proofs.Receiver.begin.Goals as goal
 
 pub returns-in_default : goal.returns-in_default
 unfolding begun holding answer_to frame_of
-returns-in_default c = let t = c in
-    rw (← t.stated_by.ensures, t.in_default.is, c.answer.ensures)
+returns-in_default c = rw (← c.stated_by.ensures, c.in_default.is, c.answer.ensures)
 
 pub returns : goal.returns
 unfolding begun answer_to frame_of
-returns c = let t = c in
-    let s = t in
-    rw (← s.stated_by.ensures, t.in-Whole.is, c.answer-2.ensures, c.hold.ensures, s.requires)
+returns c = rw (← c.stated_by.ensures, c.in-Some.is, c.answer-2.ensures, c.hold.ensures, c.requires)

@@ -12,32 +12,23 @@ use Rattle.receiver.proofs.Receiver.extend.Goals as goal
 within : (c : Start) → c.args.self.count.0 ≤ length c.args.self.octets
 within c = omega (arith, c.requires.1, octets_length c.args.self _ c.well_formed.0)
 
-pub overflow_add-count : goal.overflow_add-count
-overflow_add-count c = omega (arith, c.requires.1)
-
-pub hold-requires : goal.hold-requires
-hold-requires c = omega (arith, c.if-count-whole.true, c.requires.1)
-
-pub complete-requires : goal.complete-requires
-complete-requires c = omega (arith, c.requires.1)
-
-pub returns-then-count-whole : goal.returns-then-count-whole
+pub returns-then-self-whole : goal.returns-then-self-whole
 unfolding answer_to frame_of
-returns-then-count-whole c = let t = c in
-    let a = t in
-    let n = a.args.self.count.0 in
-    let l = a.args.self.octets in
-    let o = a.args.octet in
-    let s = held_with a.args.self o in
-    let more : length s < get_or s 0 0 = rw (length_held n l o (within (goal.at.returns-then-count-whole c).Start), first_held n l o (within (goal.at.returns-then-count-whole c).Start) a.requires.0) t.if-count-whole.true in
+returns-then-self-whole c =
+    let n = c.args.self.count.0 in
+    let l = c.args.self.octets in
+    let o = c.args.octet in
+    let s = held_with c.args.self o in
+    let w = within (goal.at.returns-then-self-whole c).Start in
+    let more : length s < get_or s 0 0 = rw (length_held n l o w, first_held n l o w c.requires.0, ← c.from-whole.ensures) c.if-self-whole.true in
     rw (grown_more s more, c.answer.ensures, c.hold.ensures)
 
-pub returns-else-count-whole : goal.returns-else-count-whole
-returns-else-count-whole c = let t = c in
-    let a = t in
-    let n = a.args.self.count.0 in
-    let l = a.args.self.octets in
-    let o = a.args.octet in
-    let s = held_with a.args.self o in
-    let whole : get_or s 0 0 ≤ length s = rw (length_held n l o (within (goal.at.returns-else-count-whole c).Start), first_held n l o (within (goal.at.returns-else-count-whole c).Start) a.requires.0) t.if-count-whole.false in
-    c.complete.ensures ∙ sym (ap (stepped a.args.self) (grown_whole s whole))
+pub returns-else-self-whole : goal.returns-else-self-whole
+returns-else-self-whole c =
+    let n = c.args.self.count.0 in
+    let l = c.args.self.octets in
+    let o = c.args.octet in
+    let s = held_with c.args.self o in
+    let w = within (goal.at.returns-else-self-whole c).Start in
+    let whole : get_or s 0 0 ≤ length s = rw (length_held n l o w, first_held n l o w c.requires.0, ← c.from-whole.ensures) c.if-self-whole.false in
+    c.complete.ensures ∙ sym (ap (stepped c.args.self) (grown_whole s whole))
