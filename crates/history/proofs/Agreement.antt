@@ -27,6 +27,7 @@ use Rattle.card.specs.declared.Phase.{Phase}
 use Rattle.card.specs.declared.Phase.TheVariants.{Idle, Waiting}
 use Rattle.card.specs.declared.Exchange.{Exchange as CardExchange}
 use Rattle.card.specs.declared.Card.{Card}
+use Rattle.std.specs.Prelude.{Option, Some, None}
 use Rattle.card.specs.declared.taking.Taken.{Taken}
 use Rattle.card.specs.declared.taking.Taken.TheVariants as taking
 use Rattle.card.specs.Loan.{Loan}
@@ -70,16 +71,16 @@ not_under n m = by (leb n m) refl
     by false e = lt-ltb m n (leb-false n m e)
 
 -- what the card takes a frame for, in the book's terms
-abbrev pub role_taken : Taken → Role
-role_taken taking.Enq = reading
-role_taken taking.Rec = programming
-role_taken taking.Aut = authentication
-role_taken taking.Trf = transfer
-role_taken taking.Trb = broadcast_transfer
-role_taken taking.Ib = initialisation
-role_taken taking.None = not_taken
+abbrev pub role_taken : Option Taken → Role
+role_taken (Some taking.Enq) = reading
+role_taken (Some taking.Rec) = programming
+role_taken (Some taking.Aut) = authentication
+role_taken (Some taking.Trf) = transfer
+role_taken (Some taking.Trb) = broadcast_transfer
+role_taken (Some taking.Ib) = initialisation
+role_taken None = not_taken
 
-role_if : (b : Bool) (t : Taken) → role_taken (taken_if b t) ≡ cond b (role_taken t) not_taken
+role_if : (b : Bool) (t : Taken) → role_taken (taken_if b t) ≡ cond b (role_taken (Some t)) not_taken
 role_if true t = refl
 role_if false t = refl
 
@@ -160,15 +161,15 @@ module _ (s : Setup) where
         rw waits
         (cond_agrees _ _ (ap (λ (key : List ℕ). eqb adp f.adp && same f.za2 (encipher key c.exchange.na2)) h.key) _ _ _ _ (written_agrees (without_wait c) (with_wait no_wait b) ended rules (programmed adp) tab d) ended)
 
-    respond_agrees : (t : Taken) (loan : Loan) (f : Fields) (d : List ℕ) → StationAgrees s (card.respond t c loan f d).card (on_role (role_taken t) s loan f d b)
+    respond_agrees : (t : Option Taken) (loan : Loan) (f : Fields) (d : List ℕ) → StationAgrees s (card.respond t c loan f d).card (on_role (role_taken t) s loan f d b)
     unfolding card.respond card.on_enq card.on_rec card.on_aut card.on_trf card.on_trb card.on_ib card.acknowledged on_role
-    respond_agrees taking.Enq loan f d = enq_agrees (find_readable (attributes_of c.records) f.tab) f
-    respond_agrees taking.Rec loan f d = opened_agrees c b h loan f d
-    respond_agrees taking.Aut loan f d = aut_agrees c.exchange.phase refl f
-    respond_agrees taking.Trf loan f d = written_agrees (without_wait c) (with_wait no_wait b) (idle_agrees c b h) rules (transferred f.adp) f.tab d
-    respond_agrees taking.Trb loan f d = written_agrees (without_wait c) (with_wait no_wait b) (idle_agrees c b h) rules (by_broadcast f.adp) f.tab d
-    respond_agrees taking.Ib loan f d = idle_agrees c b h
-    respond_agrees taking.None loan f d = h
+    respond_agrees (Some taking.Enq) loan f d = enq_agrees (find_readable (attributes_of c.records) f.tab) f
+    respond_agrees (Some taking.Rec) loan f d = opened_agrees c b h loan f d
+    respond_agrees (Some taking.Aut) loan f d = aut_agrees c.exchange.phase refl f
+    respond_agrees (Some taking.Trf) loan f d = written_agrees (without_wait c) (with_wait no_wait b) (idle_agrees c b h) rules (transferred f.adp) f.tab d
+    respond_agrees (Some taking.Trb) loan f d = written_agrees (without_wait c) (with_wait no_wait b) (idle_agrees c b h) rules (by_broadcast f.adp) f.tab d
+    respond_agrees (Some taking.Ib) loan f d = idle_agrees c b h
+    respond_agrees None loan f d = h
 
     -- a good frame keeps card and book in agreement, whatever their receivers hold
     pub frame_agrees : (k : Command) (loan : Loan) (f : Fields) (d : List ℕ) → StationAgrees s (card.on_frame c loan k f d).card (on_frame k s loan f d b)

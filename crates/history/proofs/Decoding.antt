@@ -1,71 +1,112 @@
--- A loop over the octets of a history: from the card and the place that it has reached, the calls that are left end as the whole history does.
+-- A walk over the octets of a history, call by call.
 use Prim.Native.Nat.{ℕ, zero, suc, ◌+◌, ◌-◌, ◌≤◌, ◌<◌}
 use mathlib.Core.Bool.{Bool, true, false, cond}
 use mathlib.Core.List.{List, [], ◌∷◌}
 use mathlib.Core.Path.{◌≡◌, refl, sym, ap, ◌∙◌}
 use native.Mathlib.Omega.{arith}
-use lib.ListN.{length, take, drop, length-drop, drop_of_length-le}
-use lib.Seq.{length-take-le, take_all, drop-drop}
-use borrow.Author.Tests.{leb-true}
+use lib.ListN.{length, take, drop, get_or, length-drop, drop_of_length-le}
+use lib.Seq.{take_all, drop-drop}
+use Rattle.std.proofs.Common.{◌==◌}
+use borrow.Author.Tests.{eqb-true, eqb-false, leb-true, le-leb, lt-leb}
+use Rattle.octets.proofs.Parts.{part_there}
 use Rattle.card.specs.declared.Card.{Card}
-use Rattle.card.specs.Events.{after}
-use Rattle.history.specs.declared.calls.Head.{Head}
+use Rattle.card.specs.Events.{gap, after}
 use Rattle.history.specs.Claim.{run}
-use Rattle.history.specs.Encoding.{whole_at, whole_head, cut_head, head_at, call_at, size_at, calls_within, calls_of}
+use Rattle.history.specs.Encoding.{head_width, whole_at, text_at, call_of, call_at, size_at, calls_within, calls_of}
 
-some_taken : (h : List ℕ) → 0 < length h → (0 < size_at h) × (size_at h ≤ length h)
-unfolding head_at
-some_taken h p = by (whole_at h) refl
+-- what a pattern of the code has of the octets behind the first n
+pub behind : (n : ℕ) (h : List ℕ) → (take (length h - n) (drop n h) ≡ drop n h) × (length (take (length h - n) (drop n h)) ≡ length h - n)
+behind n h =
+    let all = take_all (length h - n) (drop n h) (omega (arith, length-drop n h)) in
+    (all, ap length all ∙ length-drop n h)
+
+-- octets that end before the call that they begin with
+module _ (h : List ℕ) (cut : length h < head_width + get_or h 3 0) where
+  pub cut_call : call_at h ≡ gap
+  unfolding call_at
+  cut_call = rw (lt-leb _ _ cut)
+
+  pub cut_rest : drop (size_at h) h ≡ []
+  unfolding size_at
+  cut_rest = rw (lt-leb _ _ cut) (drop_of_length-le h {i = length h} (omega arith))
+
+-- octets that begin with a whole call
+module _ (h : List ℕ) (n : ℕ) (says : n ≡ get_or h 3 0) (whole : head_width + n ≤ length h) where
+  fits : head_width + get_or h 3 0 ≤ length h
+  fits = omega arith
+
+  text_taken : text_at h ≡ take n (drop head_width h)
+  unfolding text_at
+  text_taken = part_there h head_width (head_width + get_or h 3 0) fits ∙ ap (λ (m : ℕ). take m (drop head_width h)) (omega arith)
+
+  pub whole_call : call_at h ≡ call_of (get_or h 0 0) (get_or h 1 0) (get_or h 2 0) (take n (drop head_width h))
+  unfolding call_at
+  whole_call = rw (le-leb _ _ fits, text_taken)
+
+  pub whole_rest : drop (size_at h) h ≡ drop n (drop head_width h)
+  unfolding size_at
+  whole_rest = rw (le-leb _ _ fits, ← says) (sym (drop-drop n head_width h))
+
+-- a call takes no more octets than there are, and an octet or more where there is one
+pub size_within : (h : List ℕ) → size_at h ≤ length h
+unfolding size_at
+size_within h = by (whole_at h) refl
   where
-    by : (b : Bool) → whole_at h ≡ b → (0 < (cond b (whole_head h) (cut_head h)).size.0) × ((cond b (whole_head h) (cut_head h)).size.0 ≤ length h)
-    by true e = (omega arith, leb-true _ _ e)
-    by false e = (p, omega arith)
+    by : (b : Bool) → whole_at h ≡ b → cond b (head_width + get_or h 3 0) (length h) ≤ length h
+    by true e = leb-true _ _ e
+    by false e = omega arith
 
-rest_length : (h : List ℕ) (at : ℕ) → length (take (length h - at) (drop at h)) ≡ length h - at
-rest_length h at = length-take-le (length h - at) (drop at h) (rw length-drop (omega arith))
+pub call_taken : (h : List ℕ) → 0 < length h → 0 < size_at h
+unfolding size_at
+call_taken h p = by (whole_at h)
+  where
+    by : (b : Bool) → 0 < cond b (head_width + get_or h 3 0) (length h)
+    by true = omega arith
+    by false = p
 
--- the call that begins at an offset takes an octet or more, and no more than are left
-pub call_taken : (h : List ℕ) (at : ℕ) (x : Head) → at < length h → x ≡ head_at (take (length h - at) (drop at h)) → (0 < x.size.0) × (at + x.size.0 ≤ length h)
-call_taken h at x p e =
-    let left = rest_length h at in
-    let some = some_taken (take (length h - at) (drop at h)) (omega arith) in
-    let size : x.size.0 ≡ size_at (take (length h - at) (drop at h)) = ap (λ (y : Head). y.size.0) e in
-    (omega (arith, some.0), omega (arith, some.1))
+-- a call takes an octet or more, and no more than there are
+pub some_taken : (h : List ℕ) → 0 < length h → (0 < size_at h) × (size_at h ≤ length h)
+some_taken h p = (call_taken h p, size_within h)
 
-calls_next : (n : ℕ) (h : List ℕ) → 0 < length h → calls_within (suc n) h ≡ call_at h ∷ calls_within n (drop (size_at h) h)
-unfolding calls_within
-calls_next n [] p = let z : ⊥ = omega arith in absurd z
-calls_next n (x ∷ h) p = refl
+-- the code's test of whether octets are left
+pub some_left : (h : List ℕ) → false ≡ (length h == 0) → 0 < length h
+some_left h e = let some : length h ≡ 0 → ⊥ = eqb-false (length h) 0 (sym e) in omega arith
+
+pub none_left : (h : List ℕ) → true ≡ (length h == 0) → length h ≡ 0
+none_left h e = eqb-true (length h) 0 (sym e)
+
+-- so the octets behind it are fewer
+pub fewer_left : (h rest : List ℕ) → 0 < length h → rest ≡ drop (size_at h) h → length rest < length h
+fewer_left h rest p e = omega (arith, call_taken h p, ap length e, length-drop (size_at h) h)
 
 pub calls_none : (n : ℕ) → calls_within n [] ≡ []
 unfolding calls_within
 calls_none zero = refl
 calls_none (suc n) = refl
 
--- at most n calls are left from offset at on, and they lead the card c to where the whole history h leads the card at its start
-pub record Going (start : Card) (h : List ℕ) (c : Card) (at n : ℕ) : Type 0 where
-  pub enough : length h - at ≤ n
-  pub ends : run start (calls_of h) ≡ run c (calls_within n (drop at h))
+-- more calls than octets are never read
+calls_enough : (n m : ℕ) (h : List ℕ) → length h ≤ n → length h ≤ m → calls_within n h ≡ calls_within m h
+unfolding calls_within
+calls_enough n m [] p q = calls_none n ∙ sym (calls_none m)
+calls_enough zero m (x ∷ h) p q = let z : ⊥ = omega arith in absurd z
+calls_enough (suc n) zero (x ∷ h) p q = let z : ⊥ = omega arith in absurd z
+calls_enough (suc n) (suc m) (x ∷ h) p q =
+    let fewer = fewer_left (x ∷ h) _ (omega arith) refl in
+    ap (λ l. call_at (x ∷ h) ∷ l) (calls_enough n m (drop (size_at (x ∷ h)) (x ∷ h)) (omega arith) (omega arith))
 
-module _ (start : Card) (h : List ℕ) where
-  pub going_start : Going start h start 0 (length h)
-  going_start = record { enough = omega arith; ends = refl }
+-- the calls of a history are its first call and then those of the octets behind it
+pub calls_next : (h : List ℕ) → 0 < length h → calls_of h ≡ call_at h ∷ calls_of (drop (size_at h) h)
+unfolding calls_within
+calls_next [] p = let z : ⊥ = omega arith in absurd z
+calls_next (x ∷ h) p =
+    let fewer = fewer_left (x ∷ h) _ p refl in
+    ap (λ l. call_at (x ∷ h) ∷ l) (calls_enough (length h) _ (drop (size_at (x ∷ h)) (x ∷ h)) (omega arith) (omega arith))
 
-  pub going_done : (c : Card) (at n : ℕ) → length h ≤ at → Going start h c at n → c ≡ run start (calls_of h)
-  unfolding run
-  going_done c at n p g =
-      let none : drop at h ≡ [] = drop_of_length-le h {i = at} p in
-      sym (g.ends ∙ rw (none, calls_none))
+pub run_next : (c : Card) (h rest : List ℕ) → 0 < length h → rest ≡ drop (size_at h) h → run c (calls_of h) ≡ run (after c (call_at h)).card (calls_of rest)
+unfolding run
+run_next c h rest p e = rw (calls_next h p, e)
 
-  -- one call, read from the part of the history that the code lends
-  pub going_next : (c next : Card) (at taken n : ℕ) → at < length h → next ≡ (after c (call_at (take (length h - at) (drop at h)))).card → taken ≡ size_at (take (length h - at) (drop at h))
-      → Going start h c at n → (m : ℕ) × Going start h next (at + taken) m
-  unfolding run
-  going_next c next at taken zero p e f g = let z : ⊥ = omega (arith, g.enough) in absurd z
-  going_next c next at taken (suc n) p e f g =
-      let long : length (drop at h) ≡ length h - at = length-drop at h in
-      let whole : take (length h - at) (drop at h) ≡ drop at h = take_all (length h - at) (drop at h) (omega arith) in
-      let some = (some_taken (drop at h) (omega arith)).0 in
-      let step : next ≡ (after c (call_at (drop at h))).card = rw whole at e in
-      let size : taken ≡ size_at (drop at h) = rw whole at f in
-      (n, record { enough = omega (arith, g.enough); ends = g.ends ∙ rw (calls_next n (drop at h) (omega arith), drop-drop, step, size) })
+pub run_end : (c : Card) (h : List ℕ) → length h ≡ 0 → run c (calls_of h) ≡ c
+unfolding run
+run_end c [] p = rw (calls_none 0)
+run_end c (x ∷ h) p = let z : ⊥ = omega arith in absurd z

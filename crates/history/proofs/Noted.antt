@@ -86,7 +86,7 @@ module _ (s : Setup) (x : List Handed) (all : AllUsable x) (b : Book) (empty : b
   unfolding on_frame role_of on_role
   broadcast_noted good everyone g =
       let f = fields_of Trb (octets_in x) in
-      rw (frame_heard s x all Trb good b empty, everyone, same_self)
+      rw (frame_heard s x all Trb good b empty, everyone)
       (note_granted s (by_broadcast f.adp) f.tab (data_of Trb (octets_in x)) (with_wait no_wait (with_receiver awaiting b)) i g)
 
 module _ (s : Setup) (x : List Handed) (first : AllUsable x) (y : List Handed) (second : AllUsable y) (a : Authentic s x y) (b : Book) (empty : b.receiver ≡ awaiting) where

@@ -25,6 +25,7 @@ use Rattle.records.proofs.Refusals.{Bounded, grant_bounded}
 use Rattle.card.specs.declared.Phase.{Phase}
 use Rattle.card.specs.declared.Phase.TheVariants.{Idle, Waiting}
 use Rattle.card.specs.declared.Card.{Card}
+use Rattle.std.specs.Prelude.{Option, Some, None}
 use Rattle.card.specs.declared.taking.Taken.{Taken}
 use Rattle.card.specs.declared.taking.Taken.TheVariants as taking
 use Rattle.card.specs.Loan.{Loan}
@@ -85,16 +86,16 @@ module _ (s : Setup) (c : Card) (b : Book) (h : StationAgrees s c b) where
       let tested = ap (λ (key : List ℕ). eqb adp f.adp && same f.za2 (encipher key c.exchange.na2)) h.key in
       rw waits (chosen (λ (r : Response). r.reply) _ _ tested (card.acknowledged (without_wait c) (cause_of (programmed adp)) tab d Eos f) _ _ _ (bus_reply (programmed adp) tab d Eos f) refl)
 
-  respond_reply : (t : Taken) (loan : Loan) (f : Fields) (d : List ℕ) → (card.respond t c loan f d).reply ≡ reply_as (role_taken t) s b loan f d
+  respond_reply : (t : Option Taken) (loan : Loan) (f : Fields) (d : List ℕ) → (card.respond t c loan f d).reply ≡ reply_as (role_taken t) s b loan f d
   unfolding card.respond card.on_enq card.on_rec card.on_aut card.on_trf card.on_trb card.on_ib card.written reply_as
-  respond_reply taking.Enq loan f d =
+  respond_reply (Some taking.Enq) loan f d =
       enq_reply (find_readable (attributes_of c.records) f.tab) f refl ∙ ap (λ (l : List Attributes). read_reply (find_readable l f.tab) f (b.noted f.tab)) h.attributes
-  respond_reply taking.Rec loan f d = rw h.key
-  respond_reply taking.Aut loan f d = aut_reply_lem c.exchange.phase refl f
-  respond_reply taking.Trf loan f d = bus_reply (transferred f.adp) f.tab d Tra f
-  respond_reply taking.Trb loan f d = refl
-  respond_reply taking.Ib loan f d = refl
-  respond_reply taking.None loan f d = refl
+  respond_reply (Some taking.Rec) loan f d = rw h.key
+  respond_reply (Some taking.Aut) loan f d = aut_reply_lem c.exchange.phase refl f
+  respond_reply (Some taking.Trf) loan f d = bus_reply (transferred f.adp) f.tab d Tra f
+  respond_reply (Some taking.Trb) loan f d = refl
+  respond_reply (Some taking.Ib) loan f d = refl
+  respond_reply None loan f d = refl
 
   pub reply_agrees : (k : Command) (loan : Loan) (f : Fields) (d : List ℕ) → (card.on_frame c loan k f d).reply ≡ reply_to k s b loan f d
   unfolding card.on_frame reply_to
@@ -123,16 +124,16 @@ module _ (s : Setup) (c : Card) (b : Book) (h : StationAgrees s c b) where
       let tested = ap (λ (key : List ℕ). eqb adp f.adp && same f.za2 (encipher key c.exchange.na2)) h.key in
       rw waits (chosen (λ (r : Response). r.number) _ _ tested (card.acknowledged (without_wait c) (cause_of (programmed adp)) tab d Eos f) _ _ _ (bus_number (programmed adp) tab d) refl)
 
-  respond_number : (t : Taken) (loan : Loan) (f : Fields) (d : List ℕ) → (card.respond t c loan f d).number ≡ number_as (role_taken t) s b f d
+  respond_number : (t : Option Taken) (loan : Loan) (f : Fields) (d : List ℕ) → (card.respond t c loan f d).number ≡ number_as (role_taken t) s b f d
   unfolding card.respond card.on_enq card.on_rec card.on_aut card.on_trf card.on_trb card.on_ib card.acknowledged number_as
-  respond_number taking.Enq loan f d =
+  respond_number (Some taking.Enq) loan f d =
       enq_number (find_readable (attributes_of c.records) f.tab) f ∙ ap (λ (l : List Attributes). number_of (find_readable l f.tab)) h.attributes
-  respond_number taking.Rec loan f d = refl
-  respond_number taking.Aut loan f d = aut_number_lem c.exchange.phase refl f
-  respond_number taking.Trf loan f d = bus_number (transferred f.adp) f.tab d
-  respond_number taking.Trb loan f d = bus_number (by_broadcast f.adp) f.tab d
-  respond_number taking.Ib loan f d = refl
-  respond_number taking.None loan f d = refl
+  respond_number (Some taking.Rec) loan f d = refl
+  respond_number (Some taking.Aut) loan f d = aut_number_lem c.exchange.phase refl f
+  respond_number (Some taking.Trf) loan f d = bus_number (transferred f.adp) f.tab d
+  respond_number (Some taking.Trb) loan f d = bus_number (by_broadcast f.adp) f.tab d
+  respond_number (Some taking.Ib) loan f d = refl
+  respond_number None loan f d = refl
 
   pub number_agrees : (k : Command) (loan : Loan) (f : Fields) (d : List ℕ) → (card.on_frame c loan k f d).number ≡ number_to k s b f d
   unfolding card.on_frame number_to

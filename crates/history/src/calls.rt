@@ -1,72 +1,51 @@
 // Calls in octets. Each is a kind, an octet or TAB, the length of the reply buffer, the length of a text, and the text: the number
 // lent, or data.
-ghost use Rattle.std.specs.Prelude.{◌≡◌};
-ghost use Rattle.history.specs.Encoding.{call_kind, head_at, text_at};
+ghost use Rattle.std.specs.Prelude.{◌≡◌, drop};
+ghost use Rattle.history.specs.Encoding.{call_of, call_meant, call_at, size_at};
 
-use numbers::Octets;
-
-// The octets of a call before its text.
-const HEAD_WIDTH: usize = 4;
 // The longest reply buffer that a call can state, since the length is one octet.
 pub const LONGEST_LENT: usize = 255;
 
+// A call with its arguments.
 #[derive(Clone, Copy)]
-pub enum CallKind {
-    Octet,
-    MeterWrite,
+pub enum Call<'a> {
+    Octet { octet: u8, na2: &'a [u8], reply: u8 },
+    MeterWrite { tab: u8, data: &'a [u8] },
     SessionEnd,
     Gap,
 }
 
-// The call that octets begin with, but for its text, and how many of the octets it takes.
-#[derive(Clone, Copy)]
-pub struct Head {
-    pub kind: CallKind,
-    pub argument: u8,
-    pub reply: u8,
-    pub size: Octets,
-}
-
-fn call_kind(kind: u8) -> CallKind
-    ensures { result ≡ call_kind kind }
+// What a call does not use may be anything.
+// The kind is an octet of a history (`call_at`), and every octet is one.
+#[tactic(auto, unfolding(crate::specs::Encoding::call_of))]
+fn call_of<'a>(kind: u8, argument: u8, reply: u8, text: &'a [u8]) -> Call<'a>
+    ensures { call_meant result ≡ call_of kind argument reply text.entry.now }
 {
-    if kind == 0 {
-        return CallKind::Octet;
-    }
-    if kind == 1 {
-        return CallKind::MeterWrite;
-    }
-    if kind == 2 {
-        return CallKind::SessionEnd;
-    }
-    CallKind::Gap
-}
-
-// A call that the octets' end cuts is a gap.
-pub fn head_at(history: &[u8]) -> Head
-    ensures { result ≡ head_at history.now }
-{
-    let end = HEAD_WIDTH + octets::octet(history, 3) as usize;
-    if history.len() < end {
-        return Head {
-            kind: CallKind::Gap,
-            argument: 0,
-            reply: 0,
-            size: Octets(history.len()),
-        };
-    }
-    Head {
-        kind: call_kind(octets::octet(history, 0)),
-        argument: octets::octet(history, 1),
-        reply: octets::octet(history, 2),
-        size: Octets(end),
+    match kind {
+        0 => Call::Octet {
+            octet: argument,
+            na2: text,
+            reply,
+        },
+        1 => Call::MeterWrite {
+            tab: argument,
+            data: text,
+        },
+        2 => Call::SessionEnd,
+        _ => Call::Gap,
     }
 }
 
-// The text of the call that octets begin with: none of one that is cut.
-pub fn text_at(history: &[u8]) -> &[u8]
-    ensures { result.now ≡ text_at history.now }
+// The call that octets begin with, and the octets behind it. One that the octets' end cuts is a gap, and takes all of them.
+pub fn split_call(history: &[u8]) -> (Call<'_>, &[u8])
+    ensures call { call_meant result.0 ≡ call_at history.now }
+    ensures rest { result.1.now ≡ drop (size_at history.now) history.now }
 {
-    let length = octets::octet(history, 3) as usize;
-    octets::part(history, HEAD_WIDTH, HEAD_WIDTH + length)
+    let [kind, argument, reply, length, behind @ ..] = history else {
+        return (Call::Gap, &[]);
+    };
+    let Some((text, rest)) = behind.split_at_checked(usize::from(*length)) else {
+        return (Call::Gap, &[]);
+    };
+    (call_of(*kind, *argument, *reply, text), rest)
 }

@@ -1,8 +1,8 @@
 -- A call that is lent the front of a memory: too little of it is 17 and changes nothing, and what is not lent stays.
-use Prim.Native.Nat.{ℕ, ◌+◌, ◌-◌, ◌≤◌, ◌<◌}
+use Prim.Native.Nat.{ℕ, min, ◌+◌, ◌-◌, ◌≤◌, ◌<◌}
 use mathlib.Core.Path.{◌≡◌, refl, sym, ap, ◌∙◌}
 use mathlib.Core.Bool.{Bool, true, false, cond}
-use mathlib.Core.List.{List, [], ◌∷◌, ◌++◌, append-nil}
+use mathlib.Core.List.{List, [], ◌∷◌, ◌++◌}
 use native.Mathlib.Decide.{dec_lt}
 use native.Mathlib.Omega.{arith}
 use lib.Dec.{leb}
@@ -11,7 +11,7 @@ use lib.Seq.{take_all, get_or-take, get_or-append-add}
 use borrow.Author.Tests.{leb-true, leb-false}
 use Rattle.numbers.specs.Table.{none, wrong_length}
 use Rattle.card.specs.declared.Card.{Card}
-use Rattle.card.specs.Events.{Call, after}
+use Rattle.card.specs.Events.{after}
 use Rattle.history.specs.Claim as by_value
 use Rattle.card_memory.specs.Layout.{size}
 use Rattle.card_memory.specs.Decoding.{decoded}
@@ -35,9 +35,14 @@ append_agrees s t rest j e f = go (dec_lt j (length s))
         (rw a at (get_or-append-add s rest (j - length s) 0)) ∙ sym (rw b at (get_or-append-add t rest (j - length s) 0))
 
 -- all of the memory is lent where it has no more octets than asked for
-pub whole_lent : (m : List ℕ) (room : ℕ) (k : Call) → length m ≤ room → (lent_outcome m (record { room = room; call = k })).memory ≡ (call_outcome m k).memory
-unfolding lent_outcome
-whole_lent m room k h = rw (take_all room m h, drop_of_length-le m {i = room} h) (append-nil (call_outcome m k).memory)
+pub all_lent : (m : List ℕ) (room n : ℕ) → n ≡ min room (length m) → (take n m ≡ take room m) × (drop n m ≡ drop room m)
+all_lent m room n e = go (dec_lt room (length m))
+  where
+    go : Dec (room < length m) → (take n m ≡ take room m) × (drop n m ≡ drop room m)
+    go (yes h) = let same : n ≡ room = omega arith in rw same (refl, refl)
+    go (no h) =
+        let same : n ≡ length m = omega arith in
+        rw same (take_all (length m) m (omega arith) ∙ sym (take_all room m (omega arith)), drop_of_length-le m {i = length m} (omega arith) ∙ sym (drop_of_length-le m {i = room} (omega arith)))
 
 -- the octets that are lent, and those that are not
 module _ (m : List ℕ) (k : MemoryCall) where

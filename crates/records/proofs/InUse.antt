@@ -31,8 +31,5 @@ module _ (s : Records) (i : ℕ) (h : i < length (used s)) where
   unfolding attributes_of
   attributes_at = get_or-map (λ (r : Record). r.attributes) (used s) i blank ∙ ap (λ (r : Record). r.attributes) used_at
 
-  pub used_next : drop i (used s) ≡ record_at s i ∷ drop (suc i) (used s)
-  used_next = drop-cons (used s) i blank h ∙ ap (λ (r : Record). r ∷ drop (suc i) (used s)) used_at
-
   pub attributes_next : drop i (attributes_of s) ≡ (record_at s i).attributes ∷ drop (suc i) (attributes_of s)
   attributes_next = drop-cons (attributes_of s) i blank_attributes (rw attributes_length h) ∙ ap (λ (a : Attributes). a ∷ drop (suc i) (attributes_of s)) attributes_at

@@ -1,40 +1,31 @@
 -- Laws of finding a record by its TAB.
 use Prim.Native.Nat.{ℕ, zero, suc, ◌≤◌, ◌<◌}
 use mathlib.Core.Bool.{Bool, true, false, cond}
-use mathlib.Core.List.{List, [], ◌∷◌}
+use mathlib.Core.List.{List, [], ◌∷◌, map}
 use mathlib.Core.Logic.{◌⊎◌, inl, inr}
 use mathlib.Core.Path.{◌≡◌, refl, sym, ap, ◌∙◌}
 use native.Mathlib.Omega.{arith}
 use lib.Dec.{ltb, eqb}
-use lib.ListN.{length, drop, get_or}
-use borrow.Author.Tests.{eq-eqb, ne_eqb, eqb-true, lt-ltb, le-ltb, ltb-true}
+use lib.ListN.{length, get_or}
+use borrow.Author.Rules.{rules}
+use Rattle.std.proofs.Common.{Option, Some, None, ok_or, Result, position}
+use Rattle.std.specs.List.{position_or_len}
+use Rattle.std.proofs.lemmas.List.Recursion.{is_position_or_len}
+use borrow.Author.Tests.{eq-eqb, eqb-true, lt-ltb, ltb-true}
 use Rattle.octets.proofs.Impossible.{impossible}
 use Rattle.numbers.specs.Table.{no_record, not_open}
 use Rattle.numbers.specs.Answer.{given, refused, when_given}
 use Rattle.records.specs.declared.Attributes.{Attributes}
+use Rattle.records.specs.declared.Record.{Record}
 use Rattle.records.specs.declared.Records.{Records}
+use Rattle.records.specs.declared.Refusal.{Refusal}
+use Rattle.records.specs.declared.Refusal.TheVariants.{NoRecord}
+use Rattle.records.specs.Numbers.{answer_of_found}
 use Rattle.records.specs.declared.Cause.{Cause}
 use Rattle.records.specs.Finding.{used, attributes_of, blank_attributes, index_of, find, find_readable, record_at}
 use Rattle.records.specs.Writing.{grant, grant_at}
 use Rattle.records.specs.Setup.{Rules}
-use Rattle.records.proofs.InUse.{attributes_length, attributes_at, attributes_next}
-
-module _ (t : ℕ) (a : Attributes) (l : List Attributes) where
-  index_here : a.tab ≡ t → index_of t (a ∷ l) ≡ 0
-  unfolding index_of
-  index_here h = rw (eq-eqb _ _ h)
-
-  index_later : (a.tab ≡ t → ⊥) → index_of t (a ∷ l) ≡ suc (index_of t l)
-  unfolding index_of
-  index_later h = rw (ne_eqb _ _ h)
-
--- a walk over the records in use ends at the TAB, or passes one record
-module _ (s : Records) (t i : ℕ) (h : i < length (used s)) where
-  pub index_hit : (record_at s i).attributes.tab ≡ t → index_of t (drop i (attributes_of s)) ≡ 0
-  index_hit e = ap (index_of t) (attributes_next s i h) ∙ index_here t _ _ e
-
-  pub index_miss : ((record_at s i).attributes.tab ≡ t → ⊥) → index_of t (drop i (attributes_of s)) ≡ suc (index_of t (drop (suc i) (attributes_of s)))
-  index_miss e = ap (index_of t) (attributes_next s i h) ∙ index_later t _ _ e
+use Rattle.records.proofs.InUse.{attributes_length, attributes_at}
 
 module _ (l : List Attributes) (t i : ℕ) where
   pub found_at : index_of t l ≡ i → i < length l → find l t ≡ given i
@@ -82,10 +73,6 @@ index_first t (a ∷ l) (suc i) h e = go (eqb a.tab t) (index_first t l i (omega
 pub found_tab : (l : List Attributes) (t i : ℕ) → find l t ≡ given i → (get_or l i blank_attributes).tab ≡ t
 found_tab l t i e = rw (found_index l t i e) at (index_tab t l (rw (found_index l t i e) (found_below l t i e)))
 
-pub found_none : (l : List Attributes) (t : ℕ) → length l ≤ index_of t l → find l t ≡ refused no_record
-unfolding find
-found_none l t h = rw (le-ltb _ _ h)
-
 -- a TAB is found, or no record has it (10)
 pub found_or_missing : (l : List Attributes) (t : ℕ) → ((i : ℕ) × (find l t ≡ given i)) ⊎ (find l t ≡ refused no_record)
 unfolding find
@@ -128,3 +115,16 @@ module _ (l : List Attributes) (t : ℕ) (n : ℕ) (e : find l t ≡ refused n) 
   pub granted_none : (cause : Cause) (d : List ℕ) → grant l cause t d ≡ refused n
   unfolding grant when_given
   granted_none cause d = rw e
+
+-- the index that a search over the records in use comes to
+tab_index : (t : ℕ) (l : List Record) → index_of t (map (λ r. r.attributes) l) ≡ position_or_len (λ (r : Record). eqb r.attributes.tab t) l
+unfolding index_of
+tab_index t = is_position_or_len (λ l. index_of t (map (λ (r : Record). r.attributes) l)) (λ r. eqb r.attributes.tab t) refl (λ x xs. search rules)
+
+pub found_position : (s : Records) (t : ℕ) (o : Option ℕ) (r : Result ℕ Refusal) → o ≡ position (λ (r : Record). eqb r.attributes.tab t) (used s) → r ≡ ok_or o NoRecord → answer_of_found r ≡ find (attributes_of s) t
+unfolding find attributes_of
+found_position s t o r first value = rw (value, first, tab_index t (used s), attributes_length s) (go (ltb (position_or_len (λ (r : Record). eqb r.attributes.tab t) (used s)) (length (used s))) _)
+  where
+    go : (b : Bool) (i : ℕ) → answer_of_found (ok_or (cond b (Some i) None) NoRecord) ≡ cond b (given i) (refused no_record)
+    go true i = refl
+    go false i = refl

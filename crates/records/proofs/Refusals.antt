@@ -5,7 +5,9 @@ use mathlib.Core.List.{List, [], ◌∷◌}
 use mathlib.Core.Logic.{◌⊎◌, inl, inr}
 use mathlib.Core.Path.{◌≡◌, refl}
 use native.Mathlib.Omega.{arith}
-use lib.Dec.{ltb}
+use lib.Dec.{ltb, eqb}
+use borrow.Author.Tests.{ne_eqb}
+use Rattle.std.proofs.Common.{Result, Ok, Err, is_ok}
 use lib.ListN.{length, get_or}
 use Rattle.numbers.specs.Table.{none, too_long, ill_formed, too_many_characters, no_record, not_open}
 use Rattle.numbers.specs.Answer.{Answer, given, refused, refused_at, number_of, when_given}
@@ -20,7 +22,7 @@ use Rattle.records.specs.declared.Record.{Record}
 use Rattle.records.specs.declared.Cause.{Cause}
 use Rattle.records.specs.declared.Refusal.{Refusal}
 use Rattle.records.specs.declared.Refusal.TheVariants.{TooLong, IllFormed, TooManyCharacters, NoRecord, NotOpen}
-use Rattle.records.specs.Numbers.{refusal_number}
+use Rattle.records.specs.Numbers.{refusal_number, answer_number}
 use Rattle.records.specs.Judging.{length_of, over_long, text_answer, kind_answer, acceptable, contents, contents_answer}
 use Rattle.records.specs.Finding.{blank_attributes, index_of, find, find_readable}
 use Rattle.records.specs.Setup.{first_number, contents_number}
@@ -38,6 +40,11 @@ refusal_bounds IllFormed = (omega arith, omega arith)
 refusal_bounds TooManyCharacters = (omega arith, omega arith)
 refusal_bounds NoRecord = (omega arith, omega arith)
 refusal_bounds NotOpen = (omega arith, omega arith)
+
+-- what is accepted has no number
+pub accepted_number : (answer : Result (Unit {0}) Refusal) → is_ok answer ≡ eqb (answer_number answer) none
+accepted_number (Ok done) = refl
+accepted_number (Err refusal) = let some : refusal_number refusal ≡ none → ⊥ = λ e. omega (arith, (refusal_bounds refusal).0) in rw (ne_eqb (refusal_number refusal) none some)
 
 module _ {Values : Type 0} where
   cond_bounded : (b : Bool) (x y : Answer Values) → Bounded x → Bounded y → Bounded (cond b x y)

@@ -1,21 +1,23 @@
 -- Setup's tests, one record at a time.
 use Prim.Native.Nat.{ℕ, zero, suc, ◌≤◌, ◌<◌, ◌-◌}
 use mathlib.Core.Bool.{Bool, true, false, not, ◌&&◌, ◌||◌}
-use mathlib.Core.List.{List, [], ◌∷◌}
+use mathlib.Core.List.{List, [], ◌∷◌, map}
 use mathlib.Core.Path.{◌≡◌, refl, sym, ap, ◌∙◌}
 use native.Mathlib.Omega.{arith}
 use lib.Dec.{eqb}
 use lib.ListN.{length, drop, get_or, set, replicate, get_or-replicate, drop_of_length-le}
-use lib.Seq.{get_or-set_same, get_or-set_other}
+use lib.Seq.{drop-cons, get_or-set_same, get_or-set_other}
 use borrow.Author.Tests.{eqb-true, eqb-false}
+use Rattle.std.specs.List.{list_all}
 use Rattle.numbers.specs.Table.{none}
 use Rattle.numbers.specs.Answer.{number_of}
 use Rattle.records.specs.declared.Attributes.{Attributes}
+use Rattle.records.specs.declared.Record.{Record}
 use Rattle.records.specs.declared.Records.{Records}
 use Rattle.records.specs.Judging.{contents_answer}
-use Rattle.records.specs.Finding.{used, attributes_of, record_at}
+use Rattle.records.specs.Finding.{used, attributes_of, blank, record_at}
 use Rattle.records.specs.Setup.{keeps_limits, all_keep_limits, present, tabs_apart, first_number, contents_number}
-use Rattle.records.proofs.InUse.{used_next, attributes_next, attributes_length}
+use Rattle.records.proofs.InUse.{attributes_next, attributes_length}
 
 -- the marks of the TABs that a list of records has
 abbrev pub Marked : List Bool → List Attributes → Type 0
@@ -26,23 +28,24 @@ unfolding first_number
 first_stands zero next p = let z : ⊥ = omega arith in absurd z
 first_stands (suc n) next p = refl
 
-module _ (s : Records) (i : ℕ) (h : i < length (used s)) where
-  pub limits_pass : keeps_limits (record_at s i).attributes ≡ true → all_keep_limits (drop i (attributes_of s)) ≡ all_keep_limits (drop (suc i) (attributes_of s))
-  unfolding all_keep_limits
-  limits_pass e = rw (attributes_next s i h, e)
-
-  pub limits_stop : keeps_limits (record_at s i).attributes ≡ false → all_keep_limits (drop i (attributes_of s)) ≡ false
-  unfolding all_keep_limits
-  limits_stop e = rw (attributes_next s i h, e)
-
-  pub contents_pass : number_of (contents_answer (record_at s i)) ≡ none → contents_number (drop i (used s)) ≡ contents_number (drop (suc i) (used s))
-  unfolding contents_number first_number
-  contents_pass e = rw (used_next s i h, e)
-
-  pub contents_stop : (n : ℕ) → number_of (contents_answer (record_at s i)) ≡ n → none < n → contents_number (drop i (used s)) ≡ n
+-- a walk over records, at each index and past the last
+module _ (l : List Record) (i : ℕ) where
+  next_number : i < length l → contents_number (drop i l) ≡ first_number (number_of (contents_answer (get_or l i blank))) (contents_number (drop (suc i) l))
   unfolding contents_number
-  contents_stop n e p = rw (used_next s i h, e) (first_stands n _ p)
+  next_number h = ap contents_number (drop-cons l i blank h)
 
+  pub contents_pass : i < length l → number_of (contents_answer (get_or l i blank)) ≡ none → contents_number (drop i l) ≡ contents_number (drop (suc i) l)
+  unfolding first_number
+  contents_pass h e = rw (next_number h, e)
+
+  pub contents_stop : i < length l → (n : ℕ) → number_of (contents_answer (get_or l i blank)) ≡ n → none < n → contents_number (drop i l) ≡ n
+  contents_stop h n e p = rw (next_number h, e) (first_stands n _ p)
+
+  pub contents_end : length l ≤ i → contents_number (drop i l) ≡ none
+  unfolding contents_number
+  contents_end h = rw (drop_of_length-le l {i = i} h)
+
+module _ (s : Records) (i : ℕ) (h : i < length (used s)) where
   apart_pass : present (record_at s i).attributes.tab (drop (suc i) (attributes_of s)) ≡ false → tabs_apart (drop i (attributes_of s)) ≡ tabs_apart (drop (suc i) (attributes_of s))
   unfolding tabs_apart
   apart_pass e = rw (attributes_next s i h, e)
@@ -53,10 +56,6 @@ module _ (s : Records) (i : ℕ) (h : i < length (used s)) where
 
 -- past the last record nothing is left to test
 module _ (s : Records) (i : ℕ) (h : length (used s) ≤ i) where
-  pub limits_end : all_keep_limits (drop i (attributes_of s)) ≡ true
-  unfolding all_keep_limits
-  limits_end = rw (drop_of_length-le (attributes_of s) {i = i} (omega (arith, attributes_length s)))
-
   pub apart_end : tabs_apart (drop i (attributes_of s)) ≡ true
   unfolding tabs_apart
   apart_end = rw (drop_of_length-le (attributes_of s) {i = i} (omega (arith, attributes_length s)))
@@ -64,10 +63,6 @@ module _ (s : Records) (i : ℕ) (h : length (used s) ≤ i) where
   pub marks_none : Marked (replicate 256 false) (drop i (attributes_of s))
   unfolding present
   marks_none t k = rw (drop_of_length-le (attributes_of s) {i = i} (omega (arith, attributes_length s))) (get_or-replicate 256 t false false k)
-
-  pub contents_end : contents_number (drop i (used s)) ≡ none
-  unfolding contents_number
-  contents_end = rw (drop_of_length-le (used s) {i = i} h)
 
 -- a TAB that stands twice in the rest stands twice in the whole
 apart_front : (i : ℕ) (l : List Attributes) → tabs_apart (drop i l) ≡ false → tabs_apart l ≡ false
@@ -109,3 +104,13 @@ module _ (s : Records) (i : ℕ) (some : 0 < i) (h : i ≤ length (used s)) (see
 
   pub seen_next : length seen ≡ 256 → Marked (set seen (record_at s (i - 1)).attributes.tab true) (drop (i - 1) (attributes_of s))
   seen_next long = rw (attributes_next s (i - 1) met) (mark_next seen _ _ long octet (rw next m))
+
+-- the test of every record's limits, as a test of the records in use
+limits_map : (l : List Record) → all_keep_limits (map (λ r. r.attributes) l) ≡ list_all (λ (r : Record). keeps_limits r.attributes) l
+unfolding all_keep_limits
+limits_map [] = refl
+limits_map (r ∷ l) = ap (λ (b : Bool). keeps_limits r.attributes && b) (limits_map l)
+
+pub limits_all : (s : Records) → all_keep_limits (attributes_of s) ≡ list_all (λ (r : Record). keeps_limits r.attributes) (used s)
+unfolding attributes_of
+limits_all s = limits_map (used s)

@@ -1,12 +1,10 @@
 // Whether data is acceptable to a record.
 ghost use Rattle.std.specs.Prelude.{◌≡◌};
-ghost use Rattle.label.specs.Fitting.{answer_of_text};
-ghost use Rattle.records.specs.Judging.{over_long, text_answer, acceptable, contents_answer};
+ghost use Rattle.records.specs.Judging.{over_long, acceptable, contents, contents_answer};
 ghost use Rattle.records.specs.Numbers.{refusal_number, answer_number, answer_of_judged};
 
 use crate::sizes::MOST_OCTETS;
-use crate::{Answer, Attributes, Judged, Kind, Record, Refusal};
-use label::Text;
+use crate::{Attributes, Kind, Record, Refusal};
 use numbers::{Characters, Octets, table};
 
 impl Refusal {
@@ -23,14 +21,13 @@ impl Refusal {
     }
 }
 
-impl Answer {
-    pub fn number(self) -> u8
-        ensures { result ≡ answer_number self }
-    {
-        match self {
-            Answer::Accepted => table::NONE,
-            Answer::Refused(refusal) => refusal.number(),
-        }
+// 01's number of what a write or contents come to: 0 where nothing is refused.
+pub fn answer_number(answer: Result<(), Refusal>) -> u8
+    ensures { result ≡ answer_number answer }
+{
+    match answer {
+        Ok(()) => table::NONE,
+        Err(refusal) => refusal.number(),
     }
 }
 
@@ -38,59 +35,45 @@ impl Answer {
 fn over_long(limit: Octets, octets: Octets) -> bool
     ensures { result ≡ over_long limit octets }
 {
-    let n = octets.0;
-    if MOST_OCTETS < n {
-        return true;
-    }
-    limit.0 < n
-}
-
-fn text_answer(limit: Characters, text: Text) -> Judged
-    ensures { answer_of_judged result ≡ text_answer limit (answer_of_text text) }
-{
-    match text {
-        Text::IllFormed(_) => Judged::Refused(Refusal::IllFormed),
-        Text::WellFormed(characters) => {
-            if limit.0 < characters.0 {
-                Judged::Refused(Refusal::TooManyCharacters)
-            } else {
-                Judged::Accepted(characters)
-            }
-        }
-    }
+    MOST_OCTETS < octets.0 || limit.0 < octets.0
 }
 
 impl Attributes {
-    // Whether the record takes this data, and how many characters it then has.
-    pub fn acceptable(self, data: &[u8]) -> Judged
+    // Whether the record takes this data, and how many characters it then has: 0 for a raw record.
+    pub fn acceptable(self, data: &[u8]) -> Result<Characters, Refusal>
         ensures { answer_of_judged result ≡ acceptable self «data».now }
     {
-        let limit = self.limit;
-        if over_long(limit, Octets(data.len())) {
-            return Judged::Refused(Refusal::TooLong);
+        if over_long(self.limit, Octets(data.len())) {
+            return Err(Refusal::TooLong);
         }
-        let kind = self.kind;
-        let Kind::Label(characters) = kind else {
-            return Judged::Accepted(Characters(0));
+        let Kind::Label(limit) = self.kind else {
+            return Ok(Characters(0));
         };
-        let text = label::measure(data);
-        text_answer(characters, text)
+        let Ok(characters) = label::measure(data) else {
+            return Err(Refusal::IllFormed);
+        };
+        if limit.0 < characters.0 {
+            return Err(Refusal::TooManyCharacters);
+        }
+        Ok(characters)
     }
 }
 
 impl Record {
+    // What the record holds. A length over the storage, which breaks a setup rule, is the whole storage.
+    pub fn contents(&self) -> &[u8]
+        ensures { result.now ≡ contents self.now }
+    {
+        &self.storage[..self.length.0.min(MOST_OCTETS)]
+    }
+
     // The contents as data for the record, after the length that it states, which may break a rule too.
-    pub fn contents_answer(self) -> Judged
+    pub fn contents_answer(self) -> Result<Characters, Refusal>
         ensures { answer_of_judged result ≡ contents_answer self }
     {
-        let attributes = self.attributes;
-        let limit = attributes.limit;
-        let length = self.length;
-        if over_long(limit, length) {
-            return Judged::Refused(Refusal::TooLong);
+        if over_long(self.attributes.limit, self.length) {
+            return Err(Refusal::TooLong);
         }
-        let storage = self.storage;
-        let end = length.0;
-        attributes.acceptable(&storage[..end])
+        self.attributes.acceptable(self.contents())
     }
 }

@@ -7,11 +7,13 @@ pub mod sizes;
 mod writing;
 
 pub use finding::in_use;
+pub use judging::answer_number;
 use numbers::{Characters, Octets};
 use sizes::{MOST_OCTETS, MOST_RECORDS};
 
 // A label has a limit on its characters; a raw record has none.
-#[derive(Clone, Copy)]
+// No option of a limit, which would name neither of 01's two kinds.
+#[derive(Clone, Copy, Debug, PartialEq, Eq)]
 pub enum Kind {
     Raw,
     Label(Characters),
@@ -19,6 +21,7 @@ pub enum Kind {
 
 // What setup gives a record besides its contents, and no call alters: TAB, kind, octet limit, and the marks
 // readable, open to programming, open to transfer.
+// The marks are three properties by themselves: none says whether another value is there.
 #[derive(Clone, Copy)]
 pub struct Attributes {
     pub tab: u8,
@@ -30,6 +33,7 @@ pub struct Attributes {
 }
 
 // A record's contents are the first `length` octets of its storage. The octets after them are free.
+// An array of one length: there is no heap, and the definitions keep the free octets.
 #[derive(Clone, Copy)]
 pub struct Record {
     pub attributes: Attributes,
@@ -45,7 +49,7 @@ pub struct Records {
 }
 
 // Why data, a read or a write is refused: 7, 8, 9, 10 and 11 of 01's table.
-#[derive(Clone, Copy)]
+#[derive(Clone, Copy, Debug, PartialEq, Eq)]
 pub enum Refusal {
     TooLong,
     IllFormed,
@@ -54,29 +58,8 @@ pub enum Refusal {
     NotOpen,
 }
 
-// What data comes to as data of a record: its character count, which is 0 for a raw record, or why the record does not take it.
-#[derive(Clone, Copy)]
-pub enum Judged {
-    Accepted(Characters),
-    Refused(Refusal),
-}
-
-// What a write, or the contents given at setup, come to.
-#[derive(Clone, Copy)]
-pub enum Answer {
-    Accepted,
-    Refused(Refusal),
-}
-
-// The index of the record that a TAB names, or why it may not be used.
-#[derive(Clone, Copy)]
-pub enum Found {
-    At(usize),
-    Refused(Refusal),
-}
-
 // What causes a write: the meter, or a frame from the primary with this ADP that programs, transfers or broadcasts.
-#[derive(Clone, Copy)]
+#[derive(Clone, Copy, Debug, PartialEq, Eq)]
 pub enum Cause {
     Meter,
     Programmed(u8),
@@ -88,5 +71,5 @@ pub enum Cause {
 #[derive(Clone, Copy)]
 pub struct Written {
     pub records: Records,
-    pub answer: Answer,
+    pub answer: Result<(), Refusal>,
 }

@@ -6,22 +6,18 @@ ghost use Rattle.records.specs.Setup.{keeps_limits, all_keep_limits, tabs_apart,
 
 use crate::finding::in_use;
 use crate::sizes::{MOST_CHARACTERS, MOST_OCTETS, MOST_RECORDS};
-use crate::{Answer, Attributes, Judged, Kind, Record, Records};
+use crate::{Attributes, Kind, Record, Records, Refusal};
 use numbers::Octets;
 
 impl Attributes {
     fn keeps_limits(self) -> bool
         ensures { result ≡ keeps_limits self }
     {
-        let limit = self.limit;
-        if MOST_OCTETS < limit.0 {
-            return false;
-        }
-        let kind = self.kind;
-        let Kind::Label(characters) = kind else {
-            return true;
+        let characters = match self.kind {
+            Kind::Raw => 0,
+            Kind::Label(limit) => limit.0,
         };
-        characters.0 <= MOST_CHARACTERS
+        self.limit.0 <= MOST_OCTETS && characters <= MOST_CHARACTERS
     }
 }
 
@@ -31,12 +27,8 @@ impl Records {
         ensures { result ≡ tabs_apart (attributes_of self) }
     {
         let mut seen = [false; 256];
-        let mut i = in_use(self.count);
-        while 0 < i {
-            i -= 1;
-            let record = self.each[i];
-            let attributes = record.attributes;
-            let tab = attributes.tab as usize;
+        for i in (0..in_use(self.count)).rev() {
+            let tab = usize::from(self.each[i].attributes.tab);
             if seen[tab] {
                 return false;
             }
@@ -48,61 +40,33 @@ impl Records {
     fn all_keep_limits(self) -> bool
         ensures { result ≡ all_keep_limits (attributes_of self) }
     {
-        let n = in_use(self.count);
-        let mut i = 0;
-        while i < n {
-            let record = self.each[i];
-            let attributes = record.attributes;
-            if !attributes.keeps_limits() {
-                return false;
-            }
-            i += 1;
-        }
-        true
+        self.used()
+            .iter()
+            .all(|record| record.attributes.keeps_limits())
     }
 
     // Setup's first test of the records (12).
     pub fn keeps_rules(self) -> bool
         ensures { result ≡ keeps_rules self }
     {
-        if MOST_RECORDS < self.count {
-            return false;
-        }
-        if !self.tabs_apart() {
-            return false;
-        }
-        self.all_keep_limits()
+        self.count <= MOST_RECORDS && self.tabs_apart() && self.all_keep_limits()
     }
 
     // Setup's second test of the records: the first refusal in their order (7, 8, 9).
-    pub fn contents_answers(self) -> Answer
+    pub fn contents_answers(self) -> Result<(), Refusal>
         ensures { answer_number result ≡ contents_number (used self) }
     {
-        let n = in_use(self.count);
-        let mut i = 0;
-        while i < n {
-            let record = self.each[i];
-            let judged = record.contents_answer();
-            if let Judged::Refused(refusal) = judged {
-                return Answer::Refused(refusal);
-            }
-            i += 1;
+        for record in self.used() {
+            record.contents_answer()?;
         }
-        Answer::Accepted
+        Ok(())
     }
 
     // Both tests: what every later call asks of its records (12).
     pub fn sound(self) -> bool
         ensures { result ≡ sound self }
     {
-        if !self.keeps_rules() {
-            return false;
-        }
-        let answer = self.contents_answers();
-        match answer {
-            Answer::Accepted => true,
-            Answer::Refused(_) => false,
-        }
+        self.keeps_rules() && self.contents_answers().is_ok()
     }
 
     // No records, for a card that setup refused.
@@ -117,13 +81,14 @@ impl Records {
             programming: false,
             transfer: false,
         };
-        let storage = [0u8; MOST_OCTETS];
         let record = Record {
             attributes,
             length: Octets(0),
-            storage,
+            storage: [0; MOST_OCTETS],
         };
-        let each = [record; MOST_RECORDS];
-        Records { count: 0, each }
+        Records {
+            count: 0,
+            each: [record; MOST_RECORDS],
+        }
     }
 }

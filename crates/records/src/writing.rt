@@ -5,7 +5,7 @@ ghost use Rattle.records.specs.Numbers.{answer_of_found};
 ghost use Rattle.records.specs.Finding.{attributes_of};
 ghost use Rattle.records.specs.Writing.{opens, grant, hold, store, write, Writes};
 
-use crate::{Answer, Attributes, Cause, Found, Judged, Record, Records, Refusal, Written};
+use crate::{Attributes, Cause, Record, Records, Refusal, Written};
 use numbers::Octets;
 
 impl Cause {
@@ -16,8 +16,7 @@ impl Cause {
         match self {
             Cause::Meter => true,
             Cause::Programmed(_) => attributes.programming,
-            Cause::Transferred(_) => attributes.transfer,
-            Cause::Broadcast(_) => attributes.transfer,
+            Cause::Transferred(_) | Cause::Broadcast(_) => attributes.transfer,
         }
     }
 }
@@ -28,62 +27,51 @@ impl Record {
         requires { length «data».now ≤ most_octets }
         ensures { result ≡ hold self «data».now }
     {
-        let attributes = self.attributes;
         let mut storage = self.storage;
         octets::put(&mut storage, 0, data);
         Record {
-            attributes,
             length: Octets(data.len()),
             storage,
+            ..self
         }
     }
 }
 
 impl Records {
-    fn store(self, i: usize, data: &[u8]) -> Records
-        requires { (i < most_records) × (length «data».now ≤ most_octets) }
+    fn store(mut self, i: usize, data: &[u8]) -> Records
+        requires index { i < most_records }
+        requires fits { length «data».now ≤ most_octets }
         ensures { result ≡ store self i «data».now }
     {
-        let record = self.each[i];
-        let mut next = self;
-        let held = record.hold(data);
-        next.each[i] = held;
-        next
+        self.each[i] = self.each[i].hold(data);
+        self
     }
 
     // The record that the write is granted for.
-    fn grant(self, cause: Cause, tab: u8, data: &[u8]) -> Found
+    fn grant(self, cause: Cause, tab: u8, data: &[u8]) -> Result<usize, Refusal>
         ensures { answer_of_found result ≡ grant (attributes_of self) cause tab «data».now }
     {
-        let found = self.find(tab);
-        let Found::At(i) = found else {
-            return found;
-        };
-        let record = self.each[i];
-        let attributes = record.attributes;
+        let i = self.find(tab)?;
+        let attributes = self.each[i].attributes;
         if !cause.opens(attributes) {
-            return Found::Refused(Refusal::NotOpen);
+            return Err(Refusal::NotOpen);
         }
-        let judged = attributes.acceptable(data);
-        match judged {
-            Judged::Accepted(_) => found,
-            Judged::Refused(refusal) => Found::Refused(refusal),
-        }
+        attributes.acceptable(data)?;
+        Ok(i)
     }
 
     // A write over the bus or by the meter: the record then holds the data, or all stays as it was.
     pub fn write(self, cause: Cause, tab: u8, data: &[u8]) -> Written
         ensures { Writes (write self cause tab «data».now) result }
     {
-        let granted = self.grant(cause, tab, data);
-        match granted {
-            Found::At(i) => Written {
+        match self.grant(cause, tab, data) {
+            Ok(i) => Written {
                 records: self.store(i, data),
-                answer: Answer::Accepted,
+                answer: Ok(()),
             },
-            Found::Refused(refusal) => Written {
+            Err(refusal) => Written {
                 records: self,
-                answer: Answer::Refused(refusal),
+                answer: Err(refusal),
             },
         }
     }

@@ -1,26 +1,20 @@
--- The loop goes on from a card and a place from which the calls that are left end as the whole history does.
-use mathlib.Core.Path.{ap}
-use Rattle.history.specs.declared.calls.Head.{Head}
-use Rattle.history.proofs.Decoding.{going_start, going_next, going_done, call_taken}
-use borrow.Author.Rules.{rules}
-use native.Mathlib.Omega.{arith}
+-- The calls that are left end as the whole history does.
+use mathlib.Core.Path.{sym, ap, ◌∙◌}
+use Rattle.card.specs.declared.Card.{Card}
+use Rattle.card.specs.Events.{Call, after}
+use Rattle.history.specs.Claim.{run}
+use Rattle.history.specs.Encoding.{calls_of}
+use Rattle.history.proofs.Decoding.{fewer_left, run_next, run_end, some_left, none_left}
 use Rattle.history.proofs.run.Goals as goal
 
-pub loop-at-init : goal.loop-at-init
-loop-at-init c = (search rules, (_, going_start _ _))
+pub loop-history-smaller : goal.loop-history-smaller
+loop-history-smaller c = fewer_left c.loop-history.history.now _ (some_left _ c.loop-history-test.ensures) c.split_call.ensures.rest
 
--- a call takes an octet or more, and no more than are left
-pub overflow_add-at : goal.overflow_add-at
-overflow_add-at c = omega (arith, call_taken c.args.history.now c.loop-at.at c.head_at-head.result c.loop-at-test.true c.head_at-head.ensures)
-
-pub loop-at-smaller : goal.loop-at-smaller
-loop-at-smaller c = omega (arith, call_taken c.args.history.now c.loop-at.at c.head_at-head.result c.loop-at-test.true c.head_at-head.ensures)
-
-pub loop-at-preserved : goal.loop-at-preserved
-loop-at-preserved c = let l = c.loop-at in
-    let size = ap (λ (x : Head). x.size.0) c.head_at-head.ensures in
-    ((call_taken c.args.history.now c.loop-at.at c.head_at-head.result c.loop-at-test.true c.head_at-head.ensures).1, going_next _ _ l.c _ l.at c.head_at-head.result.size.0 l.invariant.1.0 c.loop-at-test.true c.after_first-c.ensures size l.invariant.1.1)
+pub loop-history-preserved : goal.loop-history-preserved
+loop-history-preserved c =
+    let step = c.after-card.ensures ∙ ap (λ (k : Call). (after c.loop-history.card k).card) c.split_call.ensures.call in
+    let next = run_next c.loop-history.card c.loop-history.history.now _ (some_left _ c.loop-history-test.ensures) c.split_call.ensures.rest in
+    c.loop-history.invariant ∙ next ∙ ap (λ (k : Card). run k (calls_of c.split_call.result.1.now)) (sym step)
 
 pub returns : goal.returns
-returns c = let l = c.loop-at in
-    going_done _ _ l.c l.at l.invariant.1.0 c.loop-at-test.false l.invariant.1.1
+returns c = sym (c.loop-history.invariant ∙ run_end c.loop-history.card c.loop-history.history.now (none_left _ c.loop-history-test.ensures))

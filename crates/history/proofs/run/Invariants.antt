@@ -1,11 +1,12 @@
--- The loop goes on from a card and a place from which the calls that are left end as the whole history does.
-use Prim.Native.Nat.{ℕ, ◌≤◌, ◌-◌}
+-- The calls that are left end as the whole history does.
+use mathlib.Core.Path.{◌≡◌}
 use lib.ListN.{length}
-use Rattle.history.proofs.Decoding.{Going}
+use Rattle.history.specs.Claim.{run}
+use Rattle.history.specs.Encoding.{calls_of}
 use Rattle.history.proofs.run.Given as goal
 
-abbrev pub invariant-loop-at : goal.invariant-loop-at
-invariant-loop-at l = (l.at ≤ length l.history) × ((n : ℕ) × Going l.initial.c l.history l.c l.at n)
+abbrev pub invariant-loop-history : goal.invariant-loop-history
+invariant-loop-history l = run l.initial.card (calls_of l.initial.history) ≡ run l.card (calls_of l.history)
 
-abbrev pub decreases-loop-at : goal.decreases-loop-at
-decreases-loop-at l = length l.history - l.at
+abbrev pub decreases-loop-history : goal.decreases-loop-history
+decreases-loop-history l = length l.history

@@ -7,6 +7,6 @@ use Rattle.records.proofs.Shape.{storage_length}
 use Rattle.records.proofs.Record.hold.Goals as goal
 
 pub returns : goal.returns
-returns c = let s = c in
-    let fits : length s.args.«data».now ≤ length s.args.self.storage = omega (arith, storage_length s.args.self _ s.well_formed.0) in
-    rw (c.put.ensures, spliced_front s.args.self.storage s.args.«data».now fits)
+returns c =
+    let fits : length c.args.«data».now ≤ length c.args.self.storage = omega (arith, storage_length c.args.self _ c.well_formed.0) in
+    rw (c.put.ensures, spliced_front c.args.self.storage c.args.«data».now fits)

@@ -15,13 +15,13 @@ loop-i-init c = let s = c.args.self in
 pub returns-then-seen-tab : goal.returns-then-seen-tab
 returns-then-seen-tab c = let w = c in
     let l = w.loop-i in
-    sym (seen_stop w.args.self l.i (omega arith) l.invariant.0 l.seen (omega arith) l.invariant.4 c.if-seen-tab.true)
+    sym (seen_stop w.args.self l.i (omega arith) l.invariant.0 l.seen (omega arith) l.invariant.4 (rw c.from-tab.ensures at c.if-seen-tab.true))
 
 pub loop-i-preserved : goal.loop-i-preserved
 loop-i-preserved c = let w = c in
     let l = w.loop-i in
     let s = w.args.self in
-    (omega arith, omega arith, length-set l.seen _ _ ∙ l.invariant.2, seen_pass s l.i (omega arith) l.invariant.0 l.seen (omega arith) l.invariant.4 c.if-seen-tab.false l.invariant.3, seen_next s l.i (omega arith) l.invariant.0 l.seen (omega arith) l.invariant.4 l.invariant.2)
+    (omega arith, omega arith, length-set l.seen _ _ ∙ l.invariant.2, seen_pass s l.i (omega arith) l.invariant.0 l.seen (omega arith) l.invariant.4 (rw c.from-tab.ensures at c.if-seen-tab.false) l.invariant.3, rw c.from-tab.ensures (seen_next s l.i (omega arith) l.invariant.0 l.seen (omega arith) l.invariant.4 l.invariant.2))
 
 pub returns : goal.returns
 returns c = let l = c.loop-i in

@@ -9,18 +9,14 @@ use Rattle.records.proofs.Shape.{found_element}
 use Rattle.records.proofs.Records.write.Goals as goal
 
 pub store-requires : goal.store-requires
-store-requires c = let a = c in
-    let s = a.args.self in
-    let i = c.in-At.i in
-    let given = (granted_means (attributes_of s) a.args.cause a.args.tab a.args.«data».now i).0 (sym c.grant-granted.ensures ∙ ap answer_of_found c.in-At.is) in
-    (found_element s _ a.well_formed.0 a.args.tab i given.exists, accepted_fits _ _ given.accepted)
+store-requires c = let a = c.args in
+    let given = (granted_means (attributes_of a.self) a.cause a.tab a.«data».now c.in-Ok.i).0 (sym c.grant.ensures ∙ ap answer_of_found c.in-Ok.is) in
+    record { index = found_element a.self _ c.well_formed.0 a.tab c.in-Ok.i given.exists; fits = accepted_fits _ _ given.accepted }
 
-pub returns-in-At : goal.returns-in-At
+pub returns-in-Ok : goal.returns-in-Ok
 unfolding store_when
-returns-in-At c = let granted = sym c.grant-granted.ensures ∙ ap answer_of_found c.in-At.is in
-    rw granted (record { records = c.store.ensures; number = refl })
+returns-in-Ok c = rw (← c.grant.ensures, c.in-Ok.is) (record { records = c.store.ensures; number = refl })
 
-pub returns-in-Refused : goal.returns-in-Refused
+pub returns-in-Err : goal.returns-in-Err
 unfolding store_when
-returns-in-Refused c = let refused = sym c.grant-granted.ensures ∙ ap answer_of_found c.in-Refused.is in
-    rw refused (record { records = refl; number = refl })
+returns-in-Err c = rw (← c.grant.ensures, c.in-Err.is) (record { records = refl; number = refl })
