@@ -14,6 +14,7 @@ use Rattle.frame.specs.Content.{data_of}
 use Rattle.frame.proofs.Widths.{within_bounds}
 use Rattle.frame.proofs.GoodFrame.{inspected_good}
 use Rattle.frame.proofs.RoundTrip.{data_within}
+use Rattle.std.specs.Prelude.{Some}
 use Rattle.card.specs.declared.taking.Taken.TheVariants as taking
 use Rattle.card.specs.Taking.{taken_for}
 use Rattle.card.proofs.TakenFrames.{taken_rec}
@@ -28,5 +29,5 @@ unfolding layout_of
 rec_data n h = (within_bounds (layout_of Rec) n h).1
 
 -- what a card takes for a REC has as many octets as a REC can have
-pub taken_data : (own ads : List ℕ) (k : Command) (n : ℕ) → within (layout_of k) n ≡ true → taken_for own k ads ≡ taking.Rec → within (layout_of Rec) n ≡ true
+pub taken_data : (own ads : List ℕ) (k : Command) (n : ℕ) → within (layout_of k) n ≡ true → taken_for own k ads ≡ Some taking.Rec → within (layout_of Rec) n ≡ true
 taken_data own ads k n h e = rw (taken_rec own ads k e) at h

@@ -6,7 +6,6 @@ use mathlib.Core.List.{List}
 use native.Mathlib.Omega.{arith}
 use lib.Dec.{eqb}
 use lib.ListN.{length}
-use Rattle.octets.specs.Part.{same}
 use Rattle.des.specs.WeakKeys.{without_parity, weak_keys, weak}
 use Rattle.numbers.specs.Table.{wrong_address, broken_rule, wrong_length, weak_key}
 use Rattle.frame.specs.Sizes.{address_width, number_width}
@@ -24,7 +23,7 @@ fresh_whole : (address key : List ℕ) (s : Records) → broadcast address ≡ f
 fresh_whole address key s e w h = record { sound = record { address = e; key = w; fits = omega arith; receiver = fresh-sound; records = h }; long = refl }
 
 pub bare_whole : Whole bare
-unfolding broadcast same weak weak_keys without_parity
+unfolding broadcast weak weak_keys without_parity
 bare_whole = fresh_whole _ _ empty refl refl empty-sound
 
 module _ (address key : List ℕ) (s : Records) where

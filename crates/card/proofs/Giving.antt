@@ -7,10 +7,9 @@ use Rattle.octets.specs.Splice.{fronted}
 use Rattle.numbers.specs.declared.Octets.{Octets}
 use Rattle.frame.specs.Building.{Sends}
 use Rattle.card.specs.declared.Card.{Card}
-use Rattle.card.specs.declared.Answer.{Answer}
 use Rattle.card.specs.declared.Answered.{Answered}
 use Rattle.card.specs.declared.Stepped.{Stepped}
-use Rattle.card.specs.Numbers.{answer_number}
+use Rattle.card.specs.Numbers.{Answer, answer_number}
 use Rattle.card.specs.Parts.{Response, Tells, Gives, responding, telling, answered, unreplied}
 
 -- a card beside a reply that was sent

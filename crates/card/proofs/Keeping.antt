@@ -30,6 +30,7 @@ use Rattle.receiver.proofs.Arrival.{completes}
 use Rattle.card.specs.declared.Phase.{Phase}
 use Rattle.card.specs.declared.Phase.TheVariants.{Idle, Waiting}
 use Rattle.card.specs.declared.Card.{Card}
+use Rattle.std.specs.Prelude.{Option, Some, None}
 use Rattle.card.specs.declared.taking.Taken.{Taken}
 use Rattle.card.specs.declared.taking.Taken.TheVariants as taking
 use Rattle.card.specs.Loan.{Loan, usable}
@@ -167,17 +168,17 @@ module _ (c b : Card) (u : Unchanged c b) (h : Whole b) where
       cond_course c (authentic b.identity.key b.exchange.na2 adp f) _ _ (bus_course (Programmed adp) tab _ _)
       (refused_course c (without_wait b) wrong_cipher _ (record { no12 = λ e. omega arith; no17 = λ e. omega arith }) (idle_unchanged c b u h) (idle_whole c b u h))
 
-  respond_course : (t : Taken) (loan : Loan) (f : Fields) (d : List ℕ) → (t ≡ taking.Rec → within (layout_of Rec) (length d) ≡ true) → Course c (respond t b loan f d)
+  respond_course : (t : Option Taken) (loan : Loan) (f : Fields) (d : List ℕ) → (t ≡ Some taking.Rec → within (layout_of Rec) (length d) ≡ true) → Course c (respond t b loan f d)
   unfolding respond on_enq on_rec on_aut on_trf on_trb on_ib acknowledged written
-  respond_course taking.Enq loan f d w =
+  respond_course (Some taking.Enq) loan f d w =
       let l = attributes_of b.records in
       enq_course c b u h (find_readable l f.tab) (number_bounded (find_readable l f.tab) (readable_bounded l f.tab)) f
-  respond_course taking.Rec loan f d w = done_course c (waiting_for b loan f d) _ u.identity (waiting_whole c b u h loan f d (rec_data (length d) (w refl)))
-  respond_course taking.Aut loan f d w = aut_course b.exchange.phase f
-  respond_course taking.Trf loan f d w = bus_course (Transferred f.adp) f.tab d _
-  respond_course taking.Trb loan f d w = bus_course (Broadcast f.adp) f.tab d []
-  respond_course taking.Ib loan f d w = done_course c (without_wait b) [] u.identity (idle_whole c b u h)
-  respond_course taking.None loan f d w = done_course c b [] u.identity h
+  respond_course (Some taking.Rec) loan f d w = done_course c (waiting_for b loan f d) _ u.identity (waiting_whole c b u h loan f d (rec_data (length d) (w refl)))
+  respond_course (Some taking.Aut) loan f d w = aut_course b.exchange.phase f
+  respond_course (Some taking.Trf) loan f d w = bus_course (Transferred f.adp) f.tab d _
+  respond_course (Some taking.Trb) loan f d w = bus_course (Broadcast f.adp) f.tab d []
+  respond_course (Some taking.Ib) loan f d w = done_course c (without_wait b) [] u.identity (idle_whole c b u h)
+  respond_course None loan f d w = done_course c b [] u.identity h
 
   heard_course : (o : Outcome) (loan : Loan) → Numbered o → ((k : Command) (s : List ℕ) → o ≡ complete_outcome k s → within (layout_of k) (length (data_of k s)) ≡ true) → Course c (heard_as o b loan)
   unfolding heard_as on_frame

@@ -12,3 +12,5 @@ pub mod WeakKeys
 pub mod Station
 pub mod Feeding
 pub mod TakingOut
+pub mod Refusals
+pub mod Lent

@@ -25,6 +25,7 @@ use Rattle.receiver.proofs.Arrival.{completes}
 use Rattle.card.specs.declared.Phase.{Phase}
 use Rattle.card.specs.declared.Phase.TheVariants.{Idle, Waiting}
 use Rattle.card.specs.declared.Card.{Card}
+use Rattle.std.specs.Prelude.{Option, Some, None}
 use Rattle.card.specs.declared.taking.Taken.{Taken}
 use Rattle.card.specs.declared.taking.Taken.TheVariants as taking
 use Rattle.card.specs.Loan.{Loan, usable}
@@ -65,15 +66,15 @@ module _ (c : Card) where
     aut_reached Idle f = h
     aut_reached (Waiting adp tab n) f = cond_reached (authentic d.identity.key d.exchange.na2 adp f) _ _ (bus_reached (Programmed adp) tab _) (ends h)
 
-    respond_reached : (t : Taken) (loan : Loan) → length loan.na2 ≡ number_width → (f : Fields) (s : List ℕ) → (t ≡ taking.Rec → within (layout_of Rec) (length s) ≡ true) → Reached c (respond t d loan f s).card
+    respond_reached : (t : Option Taken) (loan : Loan) → length loan.na2 ≡ number_width → (f : Fields) (s : List ℕ) → (t ≡ Some taking.Rec → within (layout_of Rec) (length s) ≡ true) → Reached c (respond t d loan f s).card
     unfolding respond on_enq on_rec on_aut on_trf on_trb on_ib acknowledged
-    respond_reached taking.Enq loan e f s w = enq_reached (find_readable (attributes_of d.records) f.tab) f
-    respond_reached taking.Rec loan e f s w = waits loan f s e (rec_data (length s) (w refl)) h
-    respond_reached taking.Aut loan e f s w = aut_reached d.exchange.phase f
-    respond_reached taking.Trf loan e f s w = bus_reached (Transferred f.adp) f.tab s
-    respond_reached taking.Trb loan e f s w = bus_reached (Broadcast f.adp) f.tab s
-    respond_reached taking.Ib loan e f s w = ends h
-    respond_reached taking.None loan e f s w = h
+    respond_reached (Some taking.Enq) loan e f s w = enq_reached (find_readable (attributes_of d.records) f.tab) f
+    respond_reached (Some taking.Rec) loan e f s w = waits loan f s e (rec_data (length s) (w refl)) h
+    respond_reached (Some taking.Aut) loan e f s w = aut_reached d.exchange.phase f
+    respond_reached (Some taking.Trf) loan e f s w = bus_reached (Transferred f.adp) f.tab s
+    respond_reached (Some taking.Trb) loan e f s w = bus_reached (Broadcast f.adp) f.tab s
+    respond_reached (Some taking.Ib) loan e f s w = ends h
+    respond_reached None loan e f s w = h
 
     heard_reached : (o : Outcome) (loan : Loan) → length loan.na2 ≡ number_width → ((k : Command) (s : List ℕ) → o ≡ complete_outcome k s → within (layout_of k) (length (data_of k s)) ≡ true) → Reached c (heard_as o d loan).card
     unfolding heard_as on_frame

@@ -2,19 +2,16 @@
 use Prim.Native.Nat.{ℕ, ◌≤◌, ◌<◌}
 use mathlib.Core.Path.{◌≡◌, refl, ap, ◌∙◌}
 use mathlib.Core.Bool.{Bool, true, false, not}
-use mathlib.Core.List.{List, [], ◌∷◌}
+use mathlib.Core.List.{List}
 use native.Mathlib.Omega.{arith}
 use lib.ListN.{length, get_or, take, get_or-append}
 use borrow.Author.Tests.{eq-eqb, ne_eqb, le-leb, lt-leb, not-true, not-false}
-use types.Run.{OneOf, miss}
-use denote.Enum.Declared.{tag_of}
 use Rattle.octets.specs.Splice.{fronted}
 use Rattle.numbers.specs.Table.{broken_rule, wrong_length}
 use Rattle.numbers.specs.Answer.{number_of}
 use Rattle.frame.specs.declared.codes.Command.{Command}
 use Rattle.frame.specs.Sizes.{longest_frame, number_width}
 use Rattle.frame.specs.Content.{fields_of, data_of}
-use Rattle.receiver.specs.contracts.Event.{the_type}
 use Rattle.receiver.specs.declared.Receiver.{Receiver}
 use Rattle.receiver.specs.declared.Received.{Received}
 use Rattle.receiver.specs.declared.Event.{Event}
@@ -47,13 +44,13 @@ outcome_number_lem (dropped_outcome number) = refl
 outcome_number_lem (complete_outcome command s) = refl
 
 -- an outcome that an event without a frame answers as
-no_frame_lem : (v : Event) (o : Outcome) (c : Card) (loan : Loan) → OneOf (0 ∷ 1 ∷ 3 ∷ []) (tag_of the_type v) → answer_of_event v ≡ answer_to o → heard_as o c loan ≡ telling c (number_of (answer_to o))
+no_frame_lem : (v : Event) (o : Outcome) (c : Card) (loan : Loan) → ((k : Command) → v ≡ Good k → ⊥) → answer_of_event v ≡ answer_to o → heard_as o c loan ≡ telling c (number_of (answer_to o))
 unfolding heard_as answer_to
 no_frame_lem v silent_outcome c loan h e = refl
 no_frame_lem v (dropped_outcome number) c loan h e = refl
 no_frame_lem Nothing (complete_outcome command s) c loan h e = impossible (cc)
 no_frame_lem (Bad fault) (complete_outcome command s) c loan h e = impossible (cc)
-no_frame_lem (Good k) (complete_outcome command s) c loan h e = absurd (miss (0 ∷ 1 ∷ 3 ∷ []) 2 tt h)
+no_frame_lem (Good k) (complete_outcome command s) c loan h e = absurd (h k refl)
 no_frame_lem Refused (complete_outcome command s) c loan h e = impossible (cc)
 
 -- a is the receiver's answer to an event with the step s
@@ -67,7 +64,7 @@ module _ (c : Card) (s : Step) (a : Received) (e : answer_of_received a ≡ step
   pub gap_given : gap_step s c ≡ telling (with_receiver a.receiver c) (number_of (answer_of_event a.event))
   gap_given = rw (next, answers, outcome_number_lem s.outcome)
 
-  pub no_frame_given : (loan : Loan) → OneOf (0 ∷ 1 ∷ 3 ∷ []) (tag_of the_type a.event) → heard_step s c loan ≡ telling (with_receiver a.receiver c) (number_of (answer_of_event a.event))
+  pub no_frame_given : (loan : Loan) → ((k : Command) → a.event ≡ Good k → ⊥) → heard_step s c loan ≡ telling (with_receiver a.receiver c) (number_of (answer_of_event a.event))
   no_frame_given loan h = rw (next, answers) (no_frame_lem a.event s.outcome (after_step s c) loan h answers)
 
 -- what a good frame's last octet comes to

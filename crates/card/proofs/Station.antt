@@ -12,6 +12,7 @@ use Rattle.receiver.specs.Receiver as receiver
 use Rattle.card.specs.declared.Phase.{Phase}
 use Rattle.card.specs.declared.Phase.TheVariants.{Idle, Waiting}
 use Rattle.card.specs.declared.Card.{Card}
+use Rattle.std.specs.Prelude.{Option, Some, None}
 use Rattle.card.specs.declared.taking.Taken.{Taken}
 use Rattle.card.specs.declared.taking.Taken.TheVariants as taking
 use Rattle.card.specs.Loan.{Loan}
@@ -42,15 +43,15 @@ module _ (r : Receiver) (c : Card) where
   aut_moved Idle f = refl
   aut_moved (Waiting adp tab n) f = cond-moved (authentic c.identity.key c.exchange.na2 adp f) _ _ _ _ refl refl
 
-  respond-moved : (t : Taken) (loan : Loan) (f : Fields) (d : List ℕ) → respond t (with_receiver r c) loan f d ≡ moved r (respond t c loan f d)
+  respond-moved : (t : Option Taken) (loan : Loan) (f : Fields) (d : List ℕ) → respond t (with_receiver r c) loan f d ≡ moved r (respond t c loan f d)
   unfolding respond on_enq on_rec on_aut on_trf on_trb on_ib acknowledged written
-  respond-moved taking.Enq loan f d = enq_moved (find_readable (attributes_of c.records) f.tab) f
-  respond-moved taking.Rec loan f d = refl
-  respond-moved taking.Aut loan f d = aut_moved c.exchange.phase f
-  respond-moved taking.Trf loan f d = refl
-  respond-moved taking.Trb loan f d = refl
-  respond-moved taking.Ib loan f d = refl
-  respond-moved taking.None loan f d = refl
+  respond-moved (Some taking.Enq) loan f d = enq_moved (find_readable (attributes_of c.records) f.tab) f
+  respond-moved (Some taking.Rec) loan f d = refl
+  respond-moved (Some taking.Aut) loan f d = aut_moved c.exchange.phase f
+  respond-moved (Some taking.Trf) loan f d = refl
+  respond-moved (Some taking.Trb) loan f d = refl
+  respond-moved (Some taking.Ib) loan f d = refl
+  respond-moved None loan f d = refl
 
   frame_moved : (loan : Loan) (k : Command) (f : Fields) (d : List ℕ) → on_frame (with_receiver r c) loan k f d ≡ moved r (on_frame c loan k f d)
   unfolding on_frame

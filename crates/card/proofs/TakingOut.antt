@@ -14,8 +14,8 @@ use Rattle.receiver.specs.Receiving.{awaiting}
 use Rattle.receiver.specs.Receiver.{reception_of}
 use Rattle.card.specs.declared.Identity.{Identity}
 use Rattle.card.specs.declared.Card.{Card}
+use Rattle.std.specs.Prelude.{Option, Some, None}
 use Rattle.card.specs.declared.taking.Taken.{Taken}
-use Rattle.card.specs.declared.taking.Taken.TheVariants as taking
 use Rattle.card.specs.Loan.{Loan}
 use Rattle.card.specs.Parts.{Response, silent}
 use Rattle.card.specs.Taking.{taken_for}
@@ -51,14 +51,9 @@ sending_fed s u c r =
     }
 
 -- what is taken for none of the six is taken out, and nothing else
-pub not_taken_means : (t : Taken) → (is_taken t ≡ false) ↔ (t ≡ taking.None)
-not_taken_means taking.Enq = (λ e. impossible (cc), λ e. impossible (cc))
-not_taken_means taking.Rec = (λ e. impossible (cc), λ e. impossible (cc))
-not_taken_means taking.Aut = (λ e. impossible (cc), λ e. impossible (cc))
-not_taken_means taking.Trf = (λ e. impossible (cc), λ e. impossible (cc))
-not_taken_means taking.Trb = (λ e. impossible (cc), λ e. impossible (cc))
-not_taken_means taking.Ib = (λ e. impossible (cc), λ e. impossible (cc))
-not_taken_means taking.None = (λ e. refl, λ e. refl)
+pub not_taken_means : (t : Option Taken) → (is_taken t ≡ false) ↔ (t ≡ None)
+not_taken_means None = (λ e. refl, λ e. refl)
+not_taken_means (Some t) = (λ e. impossible (cc), λ e. impossible (cc))
 
 -- a good frame that the card does not take
 frame_passed : (c : Card) (loan : Loan) (k : Command) (f : List ℕ) → taken_as (given k) c.identity.address f ≡ false → on_frame c loan k (fields_of k f) (data_of k f) ≡ silent c

@@ -1,5 +1,5 @@
 -- What a card does with a whole good frame (01, The card).
-use Rattle.std.specs.Prelude.{ℕ, zero, suc, Bool, cond, ◌&&◌, List, [], eqb, length, take}
+use Rattle.std.specs.Prelude.{ℕ, zero, suc, Bool, cond, ◌&&◌, List, [], Option, Some, None, eqb, length, take}
 use Rattle.octets.specs.Splice.{fronted}
 use Rattle.octets.specs.Part.{same}
 use Rattle.des.specs.Des.{encipher}
@@ -90,14 +90,14 @@ unfoldable pub on_ib : Card → Response
 on_ib c = silent (without_wait c)
 
 -- "Other good frames get no reply and change nothing, the waiting exchange included."
-unfoldable pub respond : Taken → Card → Loan → Fields → List ℕ → Response
-respond taking.Enq c loan f d = on_enq c f
-respond taking.Rec c loan f d = on_rec c loan f d
-respond taking.Aut c loan f d = on_aut c f
-respond taking.Trf c loan f d = on_trf c f d
-respond taking.Trb c loan f d = on_trb c f d
-respond taking.Ib c loan f d = on_ib c
-respond taking.None c loan f d = silent c
+unfoldable pub respond : Option Taken → Card → Loan → Fields → List ℕ → Response
+respond (Some taking.Enq) c loan f d = on_enq c f
+respond (Some taking.Rec) c loan f d = on_rec c loan f d
+respond (Some taking.Aut) c loan f d = on_aut c f
+respond (Some taking.Trf) c loan f d = on_trf c f d
+respond (Some taking.Trb) c loan f d = on_trb c f d
+respond (Some taking.Ib) c loan f d = on_ib c
+respond None c loan f d = silent c
 
 unfoldable pub on_frame : Card → Loan → Command → Fields → List ℕ → Response
 on_frame c loan command f d = respond (taken_for c.identity.address command f.ads) c loan f d

@@ -7,10 +7,9 @@ use Rattle.receiver.specs.declared.Receiver.{Receiver}
 use Rattle.card.specs.declared.Phase.TheVariants.{Idle}
 use Rattle.card.specs.declared.Exchange.{Exchange}
 use Rattle.card.specs.declared.Card.{Card}
-use Rattle.card.specs.declared.Answer.{Answer}
 use Rattle.card.specs.declared.Answered.{Answered}
 use Rattle.card.specs.declared.Stepped.{Stepped}
-use Rattle.card.specs.Numbers.{answer_number}
+use Rattle.card.specs.Numbers.{Answer, answer_number}
 
 abbrev pub with_exchange : Exchange → Card → Card
 with_exchange e c = record { identity = c.identity; records = c.records; exchange = e; receiver = c.receiver }

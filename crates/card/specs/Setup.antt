@@ -1,5 +1,5 @@
 -- Setup (01, The card).
-use Rattle.std.specs.Prelude.{ℕ, zero, suc, cond, ◌&&◌, List, [], ◌∷◌, eqb, length, replicate}
+use Rattle.std.specs.Prelude.{ℕ, zero, suc, cond, ◌&&◌, List, [], ◌∷◌, Result, Ok, Err, eqb, length, replicate}
 use Rattle.des.specs.WeakKeys.{weak}
 use Rattle.numbers.specs.Table.{wrong_address, broken_rule, wrong_length, weak_key}
 use Rattle.frame.specs.Sizes.{address_width, number_width, most_programmed}
@@ -10,7 +10,9 @@ use Rattle.records.specs.Setup.{keeps_rules, contents_number, empty}
 use Rattle.receiver.specs.Receiver as receiver
 use Rattle.card.specs.declared.Phase.TheVariants.{Idle}
 use Rattle.card.specs.declared.Card.{Card}
-use Rattle.card.specs.Parts.{Response, telling, silent}
+use Rattle.card.specs.declared.Answered.{Answered}
+use Rattle.card.specs.declared.Refusal.{Refusal}
+use Rattle.card.specs.Parts.{Response, telling, silent, answered}
 
 -- "Fresh, as setup leaves a card: receiver empty, no wait, first contents." The octets for a wait are free, and zero.
 abbrev pub fresh : List ℕ → List ℕ → Records → Card
@@ -47,3 +49,8 @@ admitted address key records =
 unfoldable pub after_setup : List ℕ → List ℕ → Records → Response
 after_setup address key records =
     cond (eqb (length address) address_width && eqb (length key) number_width) (admitted address key records) (refused_setup wrong_length)
+
+-- For the private checks of setup alone: what setup hands back for the card that they give, or for their refusal.
+abbrev pub settled : Result Card Refusal → Answered
+settled (Ok c) = answered c (Ok tt)
+settled (Err refusal) = answered bare (Err refusal)

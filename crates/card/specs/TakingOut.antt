@@ -1,13 +1,12 @@
 -- Lists of good frames, fed to a card octet for octet (01, The card: "Taking out all frames that the card doesn't take from a list of good frames,
 -- with the numbers lent for them, leaves the same records and replies.").
-use Rattle.std.specs.Prelude.{ℕ, ◌≡◌, Bool, true, false, cond, List, [], ◌∷◌}
+use Rattle.std.specs.Prelude.{ℕ, ◌≡◌, Bool, false, cond, List, [], ◌∷◌, Option, is_some}
 use Rattle.frame.specs.declared.codes.Command.{Command}
 use Rattle.numbers.specs.Answer.{Answer, given, refused, refused_at}
 use Rattle.frame.specs.Checks.{inspected}
 use Rattle.frame.specs.Content.{fields_of}
 use Rattle.card.specs.declared.Card.{Card}
 use Rattle.card.specs.declared.taking.Taken.{Taken}
-use Rattle.card.specs.declared.taking.Taken.TheVariants as taking
 use Rattle.card.specs.Taking.{taken_for}
 use Rattle.card.specs.Feeding.{Handed, octets_in, AllUsable, Fed, before, fed}
 
@@ -26,14 +25,8 @@ unfoldable pub fed_all : Card → List (List Handed) → Fed
 fed_all c [] = record { card = c; replies = [] }
 fed_all c (s ∷ l) = before (fed c s).replies (fed_all (fed c s).card l)
 
-abbrev pub is_taken : Taken → Bool
-is_taken taking.Enq = true
-is_taken taking.Rec = true
-is_taken taking.Aut = true
-is_taken taking.Trf = true
-is_taken taking.Trb = true
-is_taken taking.Ib = true
-is_taken taking.None = false
+abbrev pub is_taken : Option Taken → Bool
+is_taken = is_some
 
 unfoldable pub taken_as : Answer Command → List ℕ → List ℕ → Bool
 taken_as (given command) own frame = is_taken (taken_for own command (fields_of command frame).ads)

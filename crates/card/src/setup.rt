@@ -1,12 +1,10 @@
 // Setup (01, The card).
 ghost use Rattle.std.specs.Prelude.{◌≡◌};
-ghost use Rattle.card.specs.Numbers.{answer_number};
 ghost use Rattle.card.specs.Parts.{Tells};
-ghost use Rattle.card.specs.Setup.{bare, fresh, refused_setup, admitted, after_setup};
+ghost use Rattle.card.specs.Setup.{bare, fresh, settled, admitted, after_setup};
 
-use crate::frames::write_answer;
 use crate::sound::broadcast;
-use crate::{Answer, Answered, Card, Exchange, Identity, Phase};
+use crate::{Answered, Card, Exchange, Identity, Phase, Refusal};
 use des::keys::weak;
 use frame::sizes::{ADDRESS_WIDTH, MOST_PROGRAMMED, NUMBER_WIDTH};
 use receiver::Receiver;
@@ -17,21 +15,15 @@ impl Card {
     fn fresh(address: [u8; ADDRESS_WIDTH], key: [u8; NUMBER_WIDTH], records: Records) -> Card
         ensures { result ≡ fresh address key records }
     {
-        let identity = Identity {
-            address: address,
-            key: key,
-        };
-        let exchange = Exchange {
-            phase: Phase::Idle,
-            content: [0u8; MOST_PROGRAMMED],
-            na2: [0u8; NUMBER_WIDTH],
-        };
-        let receiver = Receiver::new();
         Card {
-            identity: identity,
-            records: records,
-            exchange: exchange,
-            receiver: receiver,
+            identity: Identity { address, key },
+            records,
+            exchange: Exchange {
+                phase: Phase::Idle,
+                content: [0; MOST_PROGRAMMED],
+                na2: [0; NUMBER_WIDTH],
+            },
+            receiver: Receiver::new(),
         }
     }
 
@@ -44,45 +36,44 @@ impl Card {
         Card::fresh(address, key, Records::empty())
     }
 
-    fn refused_setup(answer: Answer) -> Answered
-        ensures { Tells (refused_setup (answer_number answer)) result }
-    {
-        Answered {
-            card: Card::bare(),
-            answer: answer,
-        }
-    }
-
     // Setup's checks after 17: the address (6), the rules of the records (12), the key (21), then each content in turn (7, 8, 9).
-    fn admitted(address: [u8; ADDRESS_WIDTH], key: [u8; NUMBER_WIDTH], records: Records) -> Answered
-        ensures { Tells (admitted address key records) result }
+    fn admitted(
+        address: [u8; ADDRESS_WIDTH],
+        key: [u8; NUMBER_WIDTH],
+        records: Records,
+    ) -> Result<Card, Refusal>
+        ensures { Tells (admitted address key records) (settled result) }
     {
         if broadcast(address) {
-            return Card::refused_setup(Answer::BroadcastAddress);
+            return Err(Refusal::BroadcastAddress);
         }
         if !records.keeps_rules() {
-            return Card::refused_setup(Answer::BrokenRule);
+            return Err(Refusal::BrokenRule);
         }
         if weak(key) {
-            return Card::refused_setup(Answer::WeakKey);
+            return Err(Refusal::WeakKey);
         }
-        let contents = records.contents_answers();
-        let records::Answer::Accepted = contents else {
-            return Card::refused_setup(write_answer(contents));
-        };
-        Card::fresh(address, key, records).answered(Answer::Nothing)
+        records.contents_answers()?;
+        Ok(Card::fresh(address, key, records))
+    }
+
+    // All of setup's checks: the lengths come first (17).
+    fn checked(address: &[u8], key: &[u8], records: Records) -> Result<Card, Refusal>
+        ensures { Tells (after_setup address.now key.now records) (settled result) }
+    {
+        if address.len() != ADDRESS_WIDTH || key.len() != NUMBER_WIDTH {
+            return Err(Refusal::WrongLength);
+        }
+        Card::admitted(octets::padded(address), octets::padded(key), records)
     }
 
     // A refused setup hands back a fixed sound card without records.
     pub fn setup(address: &[u8], key: &[u8], records: Records) -> Answered
         ensures { Tells (after_setup address.now key.now records) result }
     {
-        if address.len() != ADDRESS_WIDTH {
-            return Card::refused_setup(Answer::WrongLength);
+        match Card::checked(address, key, records) {
+            Ok(card) => card.answered(Ok(())),
+            Err(refusal) => Card::bare().answered(Err(refusal)),
         }
-        if key.len() != NUMBER_WIDTH {
-            return Card::refused_setup(Answer::WrongLength);
-        }
-        Card::admitted(octets::six(address), octets::eight(key), records)
     }
 }

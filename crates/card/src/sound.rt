@@ -8,10 +8,11 @@ use des::keys::weak;
 use frame::sizes::{ADDRESS_WIDTH, MOST_PROGRAMMED};
 
 // Whether an address is the broadcast one.
+#[tactic(auto, unfolding(frame::specs::Addresses::broadcast))]
 pub(crate) fn broadcast(address: [u8; ADDRESS_WIDTH]) -> bool
     ensures { result ≡ broadcast address }
 {
-    octets::equal(&address, &[0u8; ADDRESS_WIDTH])
+    address == [0; ADDRESS_WIDTH]
 }
 
 impl Phase {
@@ -21,39 +22,20 @@ impl Phase {
     {
         match self {
             Phase::Idle => true,
-            Phase::Waiting {
-                adp: _,
-                tab: _,
-                length,
-            } => length.0 <= MOST_PROGRAMMED,
+            Phase::Waiting { length, .. } => length.0 <= MOST_PROGRAMMED,
         }
     }
 }
 
 impl Card {
     // Whether no call refuses this card with 12.
-    pub fn sound(self) -> bool
-        ensures { result ≡ sound self }
+    pub fn sound(&self) -> bool
+        ensures { result ≡ sound self.now }
     {
-        let identity = self.identity;
-        let address = identity.address;
-        if broadcast(address) {
-            return false;
-        }
-        let key = identity.key;
-        if weak(key) {
-            return false;
-        }
-        let exchange = self.exchange;
-        let phase = exchange.phase;
-        if !phase.within_rec() {
-            return false;
-        }
-        let receiver = self.receiver;
-        if !receiver.is_sound() {
-            return false;
-        }
-        let records = self.records;
-        records.sound()
+        !broadcast(self.identity.address)
+            && !weak(self.identity.key)
+            && self.exchange.phase.within_rec()
+            && self.receiver.is_sound()
+            && self.records.sound()
     }
 }

@@ -1,13 +1,13 @@
 // Which good frames a card takes (01, The card).
 ghost use Rattle.std.specs.Prelude.{◌≡◌};
-ghost use Rattle.card.specs.Taking.{taken_if, taken_for};
+ghost use Rattle.card.specs.Taking.{taken_for};
 
 use crate::sound::broadcast;
 use frame::Command;
 use frame::sizes::ADDRESS_WIDTH;
 
-// What a card takes a good frame for: one of six, or none of its own.
-#[derive(Clone, Copy)]
+// What a card takes a good frame for.
+#[derive(Clone, Copy, Debug, PartialEq, Eq)]
 pub enum Taken {
     Enq,
     Rec,
@@ -15,28 +15,26 @@ pub enum Taken {
     Trf,
     Trb,
     Ib,
-    None,
 }
 
-fn taken_if(addressed: bool, taken: Taken) -> Taken
-    ensures { result ≡ taken_if addressed taken }
-{
-    if addressed { taken } else { Taken::None }
-}
-
-// What a card with this address takes a good frame with this command and ADS for.
-pub fn taken_for(own: [u8; ADDRESS_WIDTH], command: Command, ads: [u8; ADDRESS_WIDTH]) -> Taken
+// What a card with this address takes a good frame with this command and ADS for, if it takes it.
+#[tactic(auto, using(crate::proofs::TakenFrames::not_taken), unfolding(crate::specs::Taking::taken_for))]
+pub fn taken_for(
+    own: [u8; ADDRESS_WIDTH],
+    command: Command,
+    ads: [u8; ADDRESS_WIDTH],
+) -> Option<Taken>
     ensures { result ≡ taken_for own command ads }
 {
-    let to_own = octets::equal(&ads, &own);
+    let to_own = ads == own;
     let to_all = broadcast(ads);
     match command {
-        Command::Enq => taken_if(to_own, Taken::Enq),
-        Command::Rec => taken_if(to_own, Taken::Rec),
-        Command::Aut => taken_if(to_own, Taken::Aut),
-        Command::Trf => taken_if(to_own, Taken::Trf),
-        Command::Trb => taken_if(to_all, Taken::Trb),
-        Command::Ib => taken_if(to_all, Taken::Ib),
-        _ => Taken::None,
+        Command::Enq => to_own.then_some(Taken::Enq),
+        Command::Rec => to_own.then_some(Taken::Rec),
+        Command::Aut => to_own.then_some(Taken::Aut),
+        Command::Trf => to_own.then_some(Taken::Trf),
+        Command::Trb => to_all.then_some(Taken::Trb),
+        Command::Ib => to_all.then_some(Taken::Ib),
+        _ => None,
     }
 }

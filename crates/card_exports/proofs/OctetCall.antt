@@ -1,16 +1,18 @@
 -- What the octet call comes to where all lengths fit and the memory is legible.
 use Prim.Native.Nat.{ℕ, ◌≤◌}
 use mathlib.Core.Path.{◌≡◌, refl, sym, ap, ◌∙◌}
-use mathlib.Core.Bool.{Bool, true, false, cond, and-eq-true_iff}
+use mathlib.Core.Bool.{Bool, true, false, cond, and-eq-true_iff, and-false}
 use mathlib.Core.List.{List}
 use lib.Dec.{leb}
 use lib.ListN.{length}
-use borrow.Author.Tests.{leb-true}
+use borrow.Author.Tests.{leb-true, le-leb}
+use Rattle.std.specs.Prelude.{Err}
 use Rattle.octets.specs.Splice.{fronted}
 use Rattle.numbers.specs.Table.{broken_rule, wrong_length}
 use Rattle.card.specs.declared.Stepped.{Stepped}
+use Rattle.card.specs.declared.Refusal.{Refusal}
 use Rattle.card.specs.Loan.{usable, lending}
-use Rattle.card.specs.Numbers.{answer_number}
+use Rattle.card.specs.Numbers.{refusal_number, answer_number}
 use Rattle.card.specs.Parts.{Response, telling, Gives}
 use Rattle.card.specs.Events.{Call, octet_call, after_octet}
 use Rattle.card.specs.Events as events
@@ -19,8 +21,8 @@ use Rattle.card_memory.specs.Layout.{size}
 use Rattle.card_memory.specs.Decoding.{decoded}
 use Rattle.card_memory.specs.Legibility.{legible}
 use Rattle.card_memory.proofs.Shape.{decoded_whole}
-use Rattle.card_exports.specs.Outcome.{Outcome, Replied, refused, sound_memory, lengths_fit, done, call_outcome, unreplied, replied, finished, octet_outcome}
-use Rattle.card_exports.proofs.Calls.{legible-sound, call_finished}
+use Rattle.card_exports.specs.Outcome.{Outcome, Replied, refused, sound_memory, lengths_fit, done, call_outcome, unreplied, replied, finished, lent_card, octet_outcome}
+use Rattle.card_exports.proofs.Calls.{illegible_unsound, legible-sound, call_finished, lent_refused}
 
 module _ (m : List ℕ) (o : ℕ) (na2 reply : List ℕ) where
   abbrev event : Call
@@ -39,6 +41,21 @@ module _ (m : List ℕ) (o : ℕ) (na2 reply : List ℕ) where
       by true true = refl
       by true false = refl
       by false y = refl
+
+  -- 17 for what is lent with the octet
+  pub octet_unlent : (cell : ℕ) → usable (lending na2 reply) ≡ false → unreplied wrong_length m reply cell ≡ octet_outcome m o na2 reply cell
+  unfolding octet_outcome
+  octet_unlent cell e = rw (e, and-false (leb size (length m)))
+
+  -- 17 or 12 for the memory
+  pub octet_refused : (cell : ℕ) → usable (lending na2 reply) ≡ true → (r : Refusal) → lent_card m ≡ Err r → unreplied (refusal_number r) m reply cell ≡ octet_outcome m o na2 reply cell
+  unfolding octet_outcome
+  octet_refused cell u r e =
+      lent_refused m r e (λ x. unreplied (refusal_number x) m reply cell ≡ octet_outcome m o na2 reply cell)
+      (λ p. rw p) (λ h q. rw (le-leb size (length m) h, u, illegible_unsound m q))
+
+  pub octet_fits : usable (lending na2 reply) ≡ true → size ≤ length m → lengths_fit m event ≡ true
+  octet_fits u h = rw (le-leb size (length m) h, u)
 
   module _ (fits : lengths_fit m event ≡ true) (e : legible m ≡ true) where
     both : (leb size (length m) ≡ true) × (usable (lending na2 reply) ≡ true)

@@ -20,6 +20,7 @@ use Rattle.receiver.proofs.Follows.{Numbered, octet_numbered}
 use Rattle.card.specs.declared.Phase.{Phase}
 use Rattle.card.specs.declared.Phase.TheVariants.{Idle, Waiting}
 use Rattle.card.specs.declared.Card.{Card}
+use Rattle.std.specs.Prelude.{Option, Some, None}
 use Rattle.card.specs.declared.taking.Taken.{Taken}
 use Rattle.card.specs.declared.taking.Taken.TheVariants as taking
 use Rattle.card.specs.Loan.{Loan, usable}
@@ -59,15 +60,15 @@ aut_framed Idle c f = inl refl
 aut_framed (Waiting adp tab n) c f =
     cond_framed (authentic c.identity.key c.exchange.na2 adp f) _ _ (written_framed (without_wait c) _ tab _) (inr (omega arith, omega arith))
 
-respond_framed : (t : Taken) (c : Card) (loan : Loan) (f : Fields) (d : List ℕ) → Framed (respond t c loan f d).number
+respond_framed : (t : Option Taken) (c : Card) (loan : Loan) (f : Fields) (d : List ℕ) → Framed (respond t c loan f d).number
 unfolding respond on_enq on_rec on_aut on_trf on_trb on_ib acknowledged
-respond_framed taking.Enq c loan f d = enq_framed _ (readable_bounded (attributes_of c.records) f.tab) c f
-respond_framed taking.Rec c loan f d = inl refl
-respond_framed taking.Aut c loan f d = aut_framed c.exchange.phase c f
-respond_framed taking.Trf c loan f d = written_framed (without_wait c) _ f.tab d
-respond_framed taking.Trb c loan f d = written_framed (without_wait c) _ f.tab d
-respond_framed taking.Ib c loan f d = inl refl
-respond_framed taking.None c loan f d = inl refl
+respond_framed (Some taking.Enq) c loan f d = enq_framed _ (readable_bounded (attributes_of c.records) f.tab) c f
+respond_framed (Some taking.Rec) c loan f d = inl refl
+respond_framed (Some taking.Aut) c loan f d = aut_framed c.exchange.phase c f
+respond_framed (Some taking.Trf) c loan f d = written_framed (without_wait c) _ f.tab d
+respond_framed (Some taking.Trb) c loan f d = written_framed (without_wait c) _ f.tab d
+respond_framed (Some taking.Ib) c loan f d = inl refl
+respond_framed None c loan f d = inl refl
 
 -- a bad frame changes nothing more; no other frame gets such a number
 Bad : ℕ → Type 0

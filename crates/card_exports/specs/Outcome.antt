@@ -1,9 +1,11 @@
 -- What each event gives and leaves in lent memory, for every content and length of it (01, The form each place takes: "Exported setup, step and
 -- meter-write functions over card memory, reply buffer and numbers, testing the memory before use").
-use Rattle.std.specs.Prelude.{ℕ, Bool, true, cond, ◌&&◌, List, eqb, leb, length}
+use Rattle.std.specs.Prelude.{ℕ, Bool, true, cond, ◌&&◌, List, Result, Ok, Err, eqb, leb, length}
 use Rattle.octets.specs.Splice.{fronted}
 use Rattle.numbers.specs.Table.{broken_rule, wrong_length}
 use Rattle.card.specs.declared.Card.{Card}
+use Rattle.card.specs.declared.Refusal.{Refusal}
+use Rattle.card.specs.declared.Refusal.TheVariants.{BrokenRule, WrongLength}
 use Rattle.card.specs.Loan.{usable, lending}
 use Rattle.card.specs.Parts.{Response}
 use Rattle.card.specs.Soundness.{sound}
@@ -69,3 +71,7 @@ octet_outcome m o na2 reply cell =
 -- For the private `finish` alone: the number and the card that a call by value gave, in legible memory; 12 leaves the memory.
 unfoldable pub finished : List ℕ → ℕ → Card → Outcome
 finished m n c = cond (eqb n broken_rule) (refused broken_rule m) (record { number = n; memory = encoded c m })
+
+-- For the private `lent_card` alone: the card that lent memory holds; memory that is too short is 17, and illegible memory 12.
+abbrev pub lent_card : List ℕ → Result Card Refusal
+lent_card m = cond (leb size (length m)) (cond (legible m) (Ok (decoded m)) (Err BrokenRule)) (Err WrongLength)

@@ -3,20 +3,17 @@ ghost use Rattle.std.specs.Prelude.{◌≡◌};
 ghost use Rattle.card.specs.Numbers.{answer_number};
 ghost use Rattle.card_exports.specs.Setup.{number_with_kinds, setup_outcome};
 
-use card::{Answer, Card};
+use card::{Card, Refusal, answer_number};
 use card_memory::layout;
 use numbers::table::{BROKEN_RULE, NONE, WRONG_ADDRESS, WRONG_LENGTH};
 
 // The number of a setup whose entries may have kinds that are none: those are 12, after 17 and 6 and before the key and contents.
-fn judge(answer: Answer, known: bool) -> u8
+fn judge(answer: Result<(), Refusal>, known: bool) -> u8
     ensures { result ≡ number_with_kinds (answer_number answer) known }
 {
-    let number = answer.number();
-    if number == WRONG_LENGTH {
-        return WRONG_LENGTH;
-    }
-    if number == WRONG_ADDRESS {
-        return WRONG_ADDRESS;
+    let number = answer_number(answer);
+    if number == WRONG_LENGTH || number == WRONG_ADDRESS {
+        return number;
     }
     if known { number } else { BROKEN_RULE }
 }
@@ -36,8 +33,7 @@ pub fn propolisk_card_setup(
     }
     let records = card_memory::entries(count, entries);
     let start = Card::setup(address, key, records);
-    let answer = start.answer;
-    let number = judge(answer, card_memory::entry_kinds_known(count, entries));
+    let number = judge(start.answer, card_memory::entry_kinds_known(count, entries));
     if number == NONE {
         card_memory::set_up(memory, address, key, count, entries);
     }

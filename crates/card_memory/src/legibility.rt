@@ -15,37 +15,25 @@ fn kind_known(memory: &[u8], at: usize) -> bool
 }
 
 // Those of the first records from an offset on, as many as are in use.
+// The records start at two places, in memory and in the entries lent for setup.
 pub(crate) fn used_kinds_known(memory: &[u8], count: u8, start: usize) -> bool
     requires { start ≤ records_at }
     ensures { result ≡ used_kinds_known count start memory.now }
 {
-    let mut left = in_use(count as usize);
-    let mut at = start;
-    while 0 < left {
-        if !kind_known(memory, at) {
-            return false;
-        }
-        at += RECORD_SIZE;
-        left -= 1;
-    }
-    true
+    (0..in_use(usize::from(count))).all(|i| kind_known(memory, start + RECORD_SIZE * i))
 }
 
 // The state marks: the wait's and the receiver's.
+#[tactic(auto, unfolding(crate::specs::Legibility::marks_in_use))]
 fn marks_in_use(memory: &[u8]) -> bool
     ensures { result ≡ marks_in_use memory.now }
 {
-    if 1 < octets::octet(memory, WAIT_MARK_AT) {
-        return false;
-    }
-    octets::octet(memory, RECEIVER_MARK_AT) <= 1
+    octets::octet(memory, WAIT_MARK_AT) <= 1 && octets::octet(memory, RECEIVER_MARK_AT) <= 1
 }
 
+#[tactic(auto, unfolding(crate::specs::Legibility::legible))]
 pub fn legible(memory: &[u8]) -> bool
     ensures { result ≡ legible memory.now }
 {
-    if !marks_in_use(memory) {
-        return false;
-    }
-    used_kinds_known(memory, octets::octet(memory, COUNT_AT), RECORDS_AT)
+    marks_in_use(memory) && used_kinds_known(memory, octets::octet(memory, COUNT_AT), RECORDS_AT)
 }

@@ -23,6 +23,7 @@ pub fn entry_kinds_known(count: u8, entries: &[u8; RECORDS_SIZE]) -> bool
 }
 
 // The memory of a fresh card; more records than there are places for leave the records' part as it is.
+#[tactic(auto, unfolding(crate::specs::Setup::set_up, receiver_memory::specs::Puts::put_all))]
 pub fn set_up(
     memory: &mut [u8],
     address: &[u8],
@@ -34,9 +35,9 @@ pub fn set_up(
 {
     octets::put(memory, ADDRESS_AT, address);
     octets::put(memory, KEY_AT, key);
-    octets::put(memory, WAIT_MARK_AT, &[0u8]);
+    octets::put(memory, WAIT_MARK_AT, &[0]);
     octets::put(memory, COUNT_AT, &[count]);
-    let end = count as usize * RECORD_SIZE;
+    let end = usize::from(count) * RECORD_SIZE;
     octets::put(memory, RECORDS_AT, octets::part(entries, 0, end));
-    octets::put(memory, RECEIVER_AT, &[0u8, 0u8]);
+    octets::put(memory, RECEIVER_AT, &[0, 0]);
 }

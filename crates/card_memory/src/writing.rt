@@ -18,60 +18,48 @@ fn put_phase(memory: &mut [u8], phase: Phase)
     ensures { memory.new ≡ spliced memory.old wait_mark_at (phase_image phase) }
 {
     match phase {
-        Phase::Idle => {
-            octets::put(memory, WAIT_MARK_AT, &[0u8]);
-        }
+        Phase::Idle => octets::put(memory, WAIT_MARK_AT, &[0]),
         Phase::Waiting { adp, tab, length } => {
-            octets::put(memory, WAIT_MARK_AT, &[1u8, adp, tab, narrowed(length.0)]);
+            octets::put(memory, WAIT_MARK_AT, &[1, adp, tab, narrowed(length.0)]);
         }
     }
 }
 
-fn put_exchange(memory: &mut [u8], exchange: Exchange)
-    ensures { memory.new ≡ put_all (wait_puts exchange) memory.old }
+#[tactic(auto, unfolding(receiver_memory::specs::Puts::put_all))]
+fn put_exchange(memory: &mut [u8], exchange: &Exchange)
+    ensures { memory.new ≡ put_all (wait_puts exchange.now) memory.old }
 {
-    let phase = exchange.phase;
-    let content = exchange.content;
-    let na2 = exchange.na2;
-    put_phase(memory, phase);
-    octets::put(memory, WAIT_DATA_AT, &content);
-    octets::put(memory, NA2_AT, &na2);
+    put_phase(memory, exchange.phase);
+    octets::put(memory, WAIT_DATA_AT, &exchange.content);
+    octets::put(memory, NA2_AT, &exchange.na2);
 }
 
 // The length and the storage of a record, from the offset of its length on.
-fn put_contents(memory: &mut [u8], at: usize, stored: Record)
-    ensures { memory.new ≡ spliced memory.old at (contents_image stored) }
+fn put_contents(memory: &mut [u8], at: usize, stored: &Record)
+    ensures { memory.new ≡ spliced memory.old at (contents_image stored.now) }
 {
-    let length = stored.length;
-    let storage = stored.storage;
-    let mut image = [0u8; 1 + STORAGE_SIZE];
-    image[0] = narrowed(length.0);
-    octets::put(&mut image, 1, &storage);
+    let mut image = [0; 1 + STORAGE_SIZE];
+    image[0] = narrowed(stored.length.0);
+    octets::put(&mut image, 1, &stored.storage);
     octets::put(memory, at, &image);
 }
 
-fn put_all_contents(memory: &mut [u8], each: [Record; RECORD_PLACES])
-    ensures { memory.new ≡ put_all (contents_puts records_at each) memory.old }
+fn put_all_contents(memory: &mut [u8], each: &[Record; RECORD_PLACES])
+    ensures { memory.new ≡ put_all (contents_puts records_at each.now) memory.old }
 {
     let mut at = RECORDS_AT;
-    let mut i = 0;
-    while i < RECORD_PLACES {
-        let stored = each[i];
+    for stored in each {
         put_contents(memory, at + LENGTH_AT, stored);
         at += RECORD_SIZE;
-        i += 1;
     }
 }
 
 // What no call alters stays as it stands in the memory: address, key, count, and what setup gave each record besides its contents.
-pub fn encode(memory: &mut [u8], card: Card)
-    ensures { memory.new ≡ encoded card memory.old }
+#[tactic(auto, using(crate::proofs::Turns::encoded_in_turn))]
+pub fn encode(memory: &mut [u8], card: &Card)
+    ensures { memory.new ≡ encoded card.now memory.old }
 {
-    let exchange = card.exchange;
-    let records = card.records;
-    let each = records.each;
-    let receiver = card.receiver;
-    put_exchange(memory, exchange);
-    put_all_contents(memory, each);
-    receiver_memory::encode(memory, RECEIVER_AT, receiver);
+    put_exchange(memory, &card.exchange);
+    put_all_contents(memory, &card.records.each);
+    receiver_memory::encode(memory, RECEIVER_AT, card.receiver);
 }

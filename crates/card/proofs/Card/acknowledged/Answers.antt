@@ -17,8 +17,8 @@ bare zero granted h = h
 bare (suc n) granted h = refl
 
 pub send_bare-sent-requires : goal.send_bare-sent-requires
-send_bare-sent-requires c = let s = c in
-    (s.requires.0, rw c.acknowledgement.ensures (bare (answer_number c.written-done.result.answer) s.args.granted s.requires.1))
+send_bare-sent-requires c =
+    rw c.acknowledgement.ensures (bare (answer_number c.written-done.result.answer) c.args.granted c.requires)
 
 pub returns : goal.returns
 unfolding acknowledged

@@ -15,10 +15,10 @@ returns-then-not-sound c = rw (← c.sound.ensures, c.if-not-sound.true) (told _
 
 pub returns : goal.returns
 unfolding after_gap
-returns c = let s = c in
+returns c =
     let passed : c.sound.result ≡ true = c.if-not-sound.false in
-    let sound = (sound_means s.args.self).0 (rw c.sound.ensures at passed) in
-    let follows = gap_follows s.args.self.receiver sound.receiver (receiver_length s.args.self _ s.well_formed.0) in
-    let given = gap_given s.args.self _ c.gap-received.result (c.gap-received.ensures ∙ follows.answer) in
-    rw (← c.sound.ensures, passed, given, ← c.with_receiver-card.ensures)
+    let sound = (sound_means c.args.self).0 (rw c.sound.ensures at passed) in
+    let follows = gap_follows c.args.self.receiver sound.receiver (receiver_length c.args.self _ c.well_formed.0) in
+    let given = gap_given c.args.self _ c.gap-received.result (c.gap-received.ensures ∙ follows.answer) in
+    rw (← c.sound.ensures, passed, given)
     (told _ _ _ _ c.answered-2.ensures c.event_answer.ensures)

@@ -2,7 +2,6 @@
 use mathlib.Core.Path.{◌≡◌, ap, sym, ◌∙◌}
 use Prim.Native.Nat.{ℕ}
 use lib.ListN.{length}
-use borrow.Enum.Refused.{opened}
 use Rattle.receiver.specs.Receiver.{most_held}
 use Rattle.receiver.specs.Receiving.{on_octet}
 use Rattle.receiver.specs.Receiver.{Response, answer_of_event, answer_of_received, after_octet}
@@ -10,7 +9,7 @@ use Rattle.receiver.proofs.Follows.{Follows, octet_follows}
 use Rattle.receiver.proofs.Arrival.{Handed, good_handed}
 use Rattle.card.specs.Events.{heard}
 use Rattle.card.proofs.Shape.{receiver_length}
-use Rattle.card.proofs.Receptions.{receiver_sound, first_octet, no_frame_given, frame_given}
+use Rattle.card.proofs.Receptions.{first_octet, no_frame_given, frame_given}
 use Rattle.card.proofs.Giving.{silent_by}
 use Rattle.receiver.specs.declared.Received.{Received}
 use Rattle.receiver.specs.declared.Event.TheVariants.{Good}
@@ -29,24 +28,23 @@ module _ (c : Card) (octet : ℕ) (sound : Sound c) (long : length c.receiver.oc
 
 pub returns-in_default : goal.returns-in_default
 unfolding heard
-returns-in_default c = let s = c in
-    rw (
-      no_frame_given s.args.self _ c.octet-received.result (c.octet-received.ensures ∙ (followed s.args.self s.args.octet s.requires.0 (receiver_length s.args.self _ s.well_formed.0)).answer) _ (opened c.in_default.in_default-own.keys2),
-      ← c.with_receiver-card.ensures,
-    )
+returns-in_default c =
+    rw (no_frame_given c.args.self _ c.octet-received.result (c.octet-received.ensures ∙ (followed c.args.self c.args.octet c.requires (receiver_length c.args.self _ c.well_formed.0)).answer) _ c.in_default.not-Good)
     (silent_by _ _ _ _ _ c.unreplied.ensures c.event_answer.ensures)
 
-pub heard_frame-requires : goal.heard_frame-requires
-heard_frame-requires c = let s = c in
-    let h = handed c.args.self c.args.octet c.requires.0 (receiver_length c.args.self _ c.well_formed.0) c.octet-received.result c.in-Good.command c.octet-received.ensures c.in-Good.is in
-    let same : answer_of_received c.octet-received.result ≡ after_octet s.args.self.receiver s.args.octet = c.octet-received.ensures in
-    let next = ap (λ (x : Response). x.receiver) same in
-    let whole = ap (λ (x : Response). x.frame) same in (
-      rw (c.with_receiver-card.ensures, next) (receiver_sound s.args.self _ s.requires.0 (followed s.args.self s.args.octet s.requires.0 (receiver_length s.args.self _ s.well_formed.0)).sound),
-      (rw (whole, h.frame) (first_octet h.octets h.arrived.whole), (rw (whole, h.taken) h.arrived.good, s.requires.1)),
-    )
+pub heard_frame-requires-clause-whole : goal.heard_frame-requires-clause-whole
+heard_frame-requires-clause-whole c =
+    let h = handed c.args.self c.args.octet c.requires (receiver_length c.args.self _ c.well_formed.0) c.octet-received.result c.in-Good.command c.octet-received.ensures c.in-Good.is in
+    let whole = ap (λ (x : Response). x.frame) c.octet-received.ensures in
+    rw (whole, h.frame) (first_octet h.octets h.arrived.whole)
+
+pub heard_frame-requires-clause-good : goal.heard_frame-requires-clause-good
+heard_frame-requires-clause-good c =
+    let h = handed c.args.self c.args.octet c.requires (receiver_length c.args.self _ c.well_formed.0) c.octet-received.result c.in-Good.command c.octet-received.ensures c.in-Good.is in
+    let whole = ap (λ (x : Response). x.frame) c.octet-received.ensures in
+    rw (whole, h.taken) h.arrived.good
 
 pub returns : goal.returns
-returns c = let s = c in
-    rw (frame_given s.args.self s.args.octet _ _ (handed c.args.self c.args.octet c.requires.0 (receiver_length c.args.self _ c.well_formed.0) c.octet-received.result c.in-Good.command c.octet-received.ensures c.in-Good.is) c.octet-received.result c.octet-received.ensures (c.octet-received.ensures ∙ (followed s.args.self s.args.octet s.requires.0 (receiver_length s.args.self _ s.well_formed.0)).answer), ← c.with_receiver-card.ensures)
+returns c =
+    rw (frame_given c.args.self c.args.octet _ _ (handed c.args.self c.args.octet c.requires (receiver_length c.args.self _ c.well_formed.0) c.octet-received.result c.in-Good.command c.octet-received.ensures c.in-Good.is) c.octet-received.result c.octet-received.ensures (c.octet-received.ensures ∙ (followed c.args.self c.args.octet c.requires (receiver_length c.args.self _ c.well_formed.0)).answer))
     c.heard_frame.ensures

@@ -1,7 +1,9 @@
 -- `Card::on_aut` goes by the phase, then by the two tests of the AUT; the data that waits is a front part of the array.
-use mathlib.Core.Path.{◌≡◌, refl, sym, ap}
+use Prim.Native.Nat.{min}
+use mathlib.Core.Path.{◌≡◌, refl, ap}
 use native.Mathlib.Omega.{arith}
-use lib.Seq.{length-take-le}
+use lib.ListN.{length, take}
+use Rattle.std.proofs.lemmas.List.{take_min}
 use Rattle.octets.specs.Between.{between}
 use Rattle.frame.specs.declared.content.Fields.{Fields}
 use Rattle.frame.specs.Layout.{layout_of, within}
@@ -20,32 +22,27 @@ pub returns-in_default : goal.returns-in_default
 unfolding aut_in
 returns-in_default c = gives_by (in_its_phase _ _ _ c.in_default.is) (silent_by _ _ _ _ _ c.unreplied.ensures refl)
 
-pub send_bare-sent-requires : goal.send_bare-sent-requires
+pub send_bare-requires : goal.send_bare-requires
 unfolding layout_of within between
-send_bare-sent-requires c = (c.requires.1, refl)
+send_bare-requires c = refl
 
 pub returns-then-not-authentic : goal.returns-then-not-authentic
 unfolding aut_in
 returns-then-not-authentic c = let a = c.args in
     let tested = c.authentic in
     gives_by (in_its_phase a.self a.fields _ c.in-Waiting.is)
-    (rw (← tested.ensures, c.if-not-authentic.true) (sent_by _ c.idle-card.ensures refl c.send_bare-sent.ensures))
-
-pub slice_bounds-content-end : goal.slice_bounds-content-end
-slice_bounds-content-end c =
-    omega (arith, rw c.in-Waiting.is at c.requires.0.fits, waiting_length c.args.self _ c.well_formed.0)
-
-pub slice_bounds-acknowledged-end : goal.slice_bounds-acknowledged-end
-slice_bounds-acknowledged-end c =
-    sym (length-take-le _ _ (omega (arith, rw c.in-Waiting.is at c.requires.0.fits, waiting_length c.args.self _ c.well_formed.0)))
+    (rw (← tested.ensures, c.if-not-authentic.true) (sent_by _ c.idle-card.ensures refl c.send_bare.ensures))
 
 pub acknowledged-requires : goal.acknowledged-requires
 unfolding layout_of within between
-acknowledged-requires c = (c.requires.1, refl)
+acknowledged-requires c = refl
 
 pub returns : goal.returns
 unfolding aut_in
 returns c = let a = c.args in
     let tested = c.authentic in
+    let n = c.in-Waiting.length.0 in
+    let all : c.min-end.result ≡ min n (length a.self.exchange.content) = omega (arith, c.min-end.ensures, waiting_length a.self _ c.well_formed.0) in
+    let front : take c.min-end.result a.self.exchange.content ≡ take n a.self.exchange.content = rw all (take_min n a.self.exchange.content) in
     gives_by (in_its_phase a.self a.fields _ c.in-Waiting.is)
-    (rw (← tested.ensures, c.if-not-authentic.false, ← c.idle-card.ensures) c.acknowledged.ensures)
+    (rw (← tested.ensures, c.if-not-authentic.false, ← c.idle-card.ensures, ← front) c.acknowledged.ensures)

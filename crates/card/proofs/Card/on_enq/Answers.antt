@@ -1,53 +1,59 @@
--- `Card::on_enq` sends the record that is found. A sound record's contents fit in DAT.
-use Prim.Native.Nat.{ℕ, ◌≤◌}
+-- `Card::on_enq` sends the record that is found.
+use Prim.Native.Nat.{ℕ, ◌<◌, ◌≤◌}
+use mathlib.Core.List.{List}
+use lib.ListN.{length}
+use mir.Val.{Val}
+use denote.Shadow.{shadow}
+use Rattle.std.specs.Prelude.{Result, Ok}
+use Rattle.card.specs.declared.Card.{Card}
+use Rattle.card.specs.contracts.Card as row
 use mathlib.Core.Path.{◌≡◌, refl, sym, ap, ◌∙◌}
 use native.Mathlib.Omega.{arith}
+use Rattle.std.proofs.lemmas.List.{length-take}
 use Rattle.octets.specs.Between.{between}
+use Rattle.octets.proofs.Bounds.{between_both}
 use Rattle.frame.specs.Layout.{layout_of, within}
-use Rattle.numbers.specs.Answer.{given}
-use Rattle.records.specs.Sizes.{most_octets}
+use Rattle.records.specs.Sizes.{most_records, most_octets}
+use Rattle.records.specs.Finding.{attributes_of, find_readable, record_at}
+use Rattle.records.specs.Judging.{contents}
+use Rattle.records.specs.declared.Refusal.{Refusal}
 use Rattle.records.specs.Numbers.{answer_of_found}
-use Rattle.records.specs.Finding.{attributes_of, find, find_readable, record_at}
 use Rattle.records.proofs.Grants.{readable_means}
-use Rattle.records.proofs.Places.{found_used}
-use Rattle.records.proofs.Shape.{found_element}
+use Rattle.records.proofs.Shape.{found_element, record_storage}
+use Rattle.card.specs.Numbers.{refusal_number}
 use Rattle.card.specs.Frames.{enq_for, on_enq}
 use Rattle.card.proofs.Giving.{sent_by}
-use Rattle.records.specs.declared.Records.{Records}
-use Rattle.records.specs.declared.Found.{Found}
-use Rattle.records.specs.declared.Found.TheVariants.{At}
-use Rattle.records.specs.Setup.{Sound}
 use Rattle.card.proofs.Card.on_enq.Goals as goal
 
--- the record that is found
-module _ (s : Records) (tab i : ℕ) (answer : Found) (asked : answer_of_found answer ≡ find_readable (attributes_of s) tab) (is : answer ≡ At i) where
-  found : find (attributes_of s) tab ≡ given i
-  found = (readable_means _ _ _ (sym asked ∙ ap answer_of_found is)).0
+-- the place of the record that is found
+module _ (c : Card) (vs : List Val) (own : shadow ((row.the_row).own_val c vs)) (tab i : ℕ) (found : Result ℕ Refusal) (e : answer_of_found found ≡ find_readable (attributes_of c.records) tab) (h : found ≡ Ok i) where
+  place : i < most_records
+  place = found_element c.records _ own.1.1.1.0 _ _ (readable_means _ _ _ (sym e ∙ ap answer_of_found h)).0
 
-  short : Sound s → (record_at s i).length.0 ≤ most_octets
-  short sound =
-      let used = found_used s _ _ found in
-      omega (arith, sound.lengths _ used, sound.rules.octet_limits _ used)
+  held : length (contents (record_at c.records i)) ≤ most_octets
+  held =
+      let stored = record_at c.records i in
+      omega (arith, length-take stored.length.0 stored.storage, record_storage c.records _ own.1.1.1.0 i place)
 
-pub offset_bounds-records-i : goal.offset_bounds-records-i
-offset_bounds-records-i c = omega (arith, found_element c.args.self.records _ c.well_formed.0.1.1.1.0 _ _ (found c.args.self.records c.args.fields.tab c.in-At.i _ c.find_readable-found.ensures c.in-At.is))
+pub offset_bounds-self-i : goal.offset_bounds-self-i
+offset_bounds-self-i c = omega (arith, place c.args.self _ c.well_formed.0 _ _ _ c.find_readable.ensures c.in-Ok.is)
 
-pub bounds-records-i : goal.bounds-records-i
-bounds-records-i c = found_element c.args.self.records _ c.well_formed.0.1.1.1.0 _ _ (found c.args.self.records c.args.fields.tab c.in-At.i _ c.find_readable-found.ensures c.in-At.is)
+pub bounds-self-i : goal.bounds-self-i
+bounds-self-i c = place c.args.self _ c.well_formed.0 _ _ _ c.find_readable.ensures c.in-Ok.is
 
-pub send_record-sent-requires : goal.send_record-sent-requires
-send_record-sent-requires c = (c.requires.1, short c.args.self.records c.args.fields.tab c.in-At.i _ c.find_readable-found.ensures c.in-At.is c.requires.0.records)
+pub send-requires : goal.send-requires
+unfolding layout_of within
+send-requires c =
+    rw c.contents.ensures (between_both 0 most_octets _ (omega arith) (held c.args.self _ c.well_formed.0 _ _ _ c.find_readable.ensures c.in-Ok.is))
 
-pub send_bare-sent-requires : goal.send_bare-sent-requires
+pub send_bare-requires : goal.send_bare-requires
 unfolding layout_of within between
-send_bare-sent-requires c = (c.requires.1, refl)
+send_bare-requires c = refl
 
-pub returns-in-At : goal.returns-in-At
+pub returns-in-Ok : goal.returns-in-Ok
 unfolding on_enq enq_for
-returns-in-At c = let found = sym c.find_readable-found.ensures ∙ ap answer_of_found c.in-At.is in
-    rw found (sent_by _ c.idle-card.ensures refl c.send_record-sent.ensures)
+returns-in-Ok c = rw (sym c.find_readable.ensures ∙ ap answer_of_found c.in-Ok.is) (sent_by _ c.idle-card.ensures refl (rw c.contents.ensures at c.send.ensures))
 
-pub returns-in-Refused : goal.returns-in-Refused
+pub returns-in-Err : goal.returns-in-Err
 unfolding on_enq enq_for
-returns-in-Refused c = let missing = sym c.find_readable-found.ensures ∙ ap answer_of_found c.in-Refused.is in
-    rw missing (sent_by _ c.idle-card.ensures refl c.send_bare-sent.ensures)
+returns-in-Err c = rw (sym c.find_readable.ensures ∙ ap answer_of_found c.in-Err.is) (sent_by _ c.idle-card.ensures (ap refusal_number c.into.ensures) c.send_bare.ensures)

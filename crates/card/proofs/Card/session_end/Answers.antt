@@ -16,10 +16,10 @@ returns-then-not-sound c = rw (← c.sound.ensures, c.if-not-sound.true) (told _
 
 pub returns : goal.returns
 unfolding after_session_end on_session_end
-returns c = let s = c in
+returns c =
     let passed : c.sound.result ≡ true = c.if-not-sound.false in
-    let sound = (sound_means s.args.self).0 (rw c.sound.ensures at passed) in
-    let follows = session_end_follows s.args.self.receiver sound.receiver (receiver_length s.args.self _ s.well_formed.0) in
-    let emptied : c.session_end-received.result.receiver ≡ holding awaiting s.args.self.receiver = ap (λ (x : Response). x.receiver) (c.session_end-received.ensures ∙ follows.answer) in
+    let sound = (sound_means c.args.self).0 (rw c.sound.ensures at passed) in
+    let follows = session_end_follows c.args.self.receiver sound.receiver (receiver_length c.args.self _ c.well_formed.0) in
+    let emptied : c.session_end.result.receiver ≡ holding awaiting c.args.self.receiver = ap (λ (x : Response). x.receiver) (c.session_end.ensures ∙ follows.answer) in
     rw (← c.sound.ensures, passed)
-    (told _ _ _ _ (rw (c.with_receiver.ensures, c.idle-card.ensures, emptied) at c.answered-2.ensures) refl)
+    (told _ _ _ _ (rw (c.idle.ensures, emptied) at c.answered-2.ensures) refl)

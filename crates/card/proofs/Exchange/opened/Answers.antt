@@ -8,6 +8,6 @@ use Rattle.card.proofs.Shape.{content_length}
 use Rattle.card.proofs.Exchange.opened.Goals as goal
 
 pub returns : goal.returns
-returns c = let s = c in
-    let fits : length s.args.«data».now ≤ length s.args.self.content = omega (arith, rec_data _ s.requires, content_length s.args.self _ s.well_formed.0) in
-    rw (c.put.ensures, spliced_front s.args.self.content s.args.«data».now fits)
+returns c =
+    let fits : length c.args.«data».now ≤ length c.args.self.content = omega (arith, rec_data _ c.requires, content_length c.args.self _ c.well_formed.0) in
+    rw (c.put.ensures, spliced_front c.args.self.content c.args.«data».now fits)

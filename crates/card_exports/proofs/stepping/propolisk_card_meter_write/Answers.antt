@@ -2,23 +2,17 @@
 use mathlib.Core.Path.{refl, sym, ap, ◌∙◌}
 use Rattle.card.specs.declared.Card.{Card}
 use Rattle.card.specs.Events.{meter_write, after}
-use Rattle.card_exports.proofs.Calls.{too_short, illegible_called, call_finished}
+use Rattle.card_exports.proofs.Calls.{lent_held, call_refused, call_finished}
 use Rattle.card_exports.proofs.stepping.propolisk_card_meter_write.Goals as goal
 
-pub returns-then-memory-lt-SIZE : goal.returns-then-memory-lt-SIZE
-returns-then-memory-lt-SIZE c = sym (too_short _ c.if-memory-lt-SIZE.true _)
-
-pub returns-then-not-legible : goal.returns-then-not-legible
-returns-then-not-legible c = sym (illegible_called _ c.if-memory-lt-SIZE.false (meter_write _ _) refl (sym c.legible.ensures ∙ c.if-not-legible.true))
-
-pub returns : goal.returns
+pub returns-in-Ok : goal.returns-in-Ok
 unfolding after
-returns c = let f = c in
-    let d = f in
-    let t = d in
-    let a = t.args in
-    let k = meter_write a.tab a.«data».now in
-    let told = f.meter_write.ensures in
-    f.finish.ensures
-    ∙ call_finished _ t.if-memory-lt-SIZE.false k refl (sym t.legible.ensures ∙ t.if-not-legible.false) _ _
-    (told.number ∙ ap (λ (x : Card). (after x k).number) d.decode-card.ensures) (told.card ∙ ap (λ (x : Card). (after x k).card) d.decode-card.ensures)
+returns-in-Ok c =
+    let held = lent_held _ _ (sym c.lent_card.ensures ∙ c.in-Ok.is) in
+    let told = c.meter_write.ensures in
+    c.finish.ensures
+    ∙ call_finished _ held.whole (meter_write c.args.tab c.args.«data».now) refl held.legible _ _
+    (told.number ∙ ap (λ (x : Card). (after x (meter_write c.args.tab c.args.«data».now)).number) held.card) (told.card ∙ ap (λ (x : Card). (after x (meter_write c.args.tab c.args.«data».now)).card) held.card)
+
+pub returns-in-Err : goal.returns-in-Err
+returns-in-Err c = rw c.number.ensures (sym (call_refused _ _ (sym c.lent_card.ensures ∙ c.in-Err.is) (meter_write c.args.tab c.args.«data».now) refl))
