@@ -18,7 +18,8 @@ use Rattle.numbers.specs.Answer.{given, refused, refused_at}
 use Rattle.numbers.specs.Table.{faulty_file}
 use Rattle.number.specs.Groups.{encoded}
 use Rattle.swap.specs.declared.item.Entry.{Entry}
-use Rattle.swap.specs.declared.item.Item.TheVariants.{Good, Bad}
+use Rattle.std.specs.Prelude.{Ok, Err}
+use Rattle.swap.specs.declared.file.Fault.{Fault}
 use Rattle.swap.specs.declared.cursor.Cursor.{Cursor}
 use Rattle.swap.specs.declared.file.RecordCount.{RecordCount}
 use Rattle.swap.specs.Encoding.{records_octets}
@@ -54,19 +55,19 @@ module _ (s : List ℕ) where
   next_end c e = rw (eq-eqb c.left.0 0 e)
 
   module _ (c : Cursor) (more : c.left.0 ≡ 0 → ⊥) where
-    pub next_none : (o : Octets) → item_at 0 s c.at.0 ≡ Bad o → refused faulty_file ≡ next_at s c
+    pub next_none : (fault : Fault) → item_at 0 s c.at.0 ≡ Err fault → refused faulty_file ≡ next_at s c
     unfolding next_at followed
-    next_none o e = rw (ne_eqb c.left.0 0 more, e)
+    next_none fault e = rw (ne_eqb c.left.0 0 more, e)
 
     pub next_past : length s < c.at.0 → refused faulty_file ≡ next_at s c
-    next_past h = next_none c.at (sym (item_cut 0 s c.at.0 (drop c.at.0 s) refl (omega (arith, length-drop c.at.0 s))))
+    next_past h = next_none (record { 0 = c.at }) (sym (item_cut 0 s c.at.0 (drop c.at.0 s) refl (omega (arith, length-drop c.at.0 s))))
 
-    pub next_record : (e : Entry) → item_at 0 s c.at.0 ≡ Good e → given (record_here e (record { at = in_octets (e.from.0 + e.length.0); left = in_record_count (c.left.0 - 1) })) ≡ next_at s c
+    pub next_record : (e : Entry) → item_at 0 s c.at.0 ≡ Ok e → given (record_here e (record { at = in_octets (e.from.0 + e.length.0); left = in_record_count (c.left.0 - 1) })) ≡ next_at s c
     unfolding next_at followed
     next_record e q = rw (ne_eqb c.left.0 0 more, q)
 
   -- a record that was found ends within the file
-  pub entry_within : (at : ℕ) (e : Entry) → at ≤ length s → item_at 0 s at ≡ Good e → e.from.0 + e.length.0 ≤ length s
+  pub entry_within : (at : ℕ) (e : Entry) → at ≤ length s → item_at 0 s at ≡ Ok e → e.from.0 + e.length.0 ≤ length s
   entry_within at e h q =
       let g = item_good 0 s at e q in
       omega (arith, g.2, (shown 0 (drop at s) g.0 e.length.0 g.1).fits, length-drop at s)

@@ -1,12 +1,13 @@
 -- Octets as one number: its bounds, and the loop that makes it.
-use Prim.Native.Nat.{ℕ, suc, ◌+◌, ◌-◌, ◌*◌, ◌^◌, ◌≤◌, ◌<◌}
-use mathlib.Core.Path.{◌≡◌}
+use Prim.Native.Nat.{ℕ, suc, ◌+◌, ◌*◌, ◌^◌, min, ◌≤◌, ◌<◌}
+use mathlib.Core.Path.{◌≡◌, ap}
 use mathlib.Core.List.{List, [], ◌∷◌}
 use native.Mathlib.Nat.{pow-suc, pow-le-pow_right, mul-le-mul_right}
 use native.Mathlib.Numerals.{add-one}
 use native.Mathlib.Omega.{arith}
 use lib.ListN.{length, get_or, take, drop, drop_of_length-le, length-take}
-use lib.Seq.{drop-cons, take-nil}
+use lib.Seq.{drop-cons}
+use Rattle.std.proofs.lemmas.List.{take_min}
 use lib.Dec.{lit<}
 use Rattle.octets.proofs.Below.{Below-take, Below-drop}
 use Rattle.swap.specs.Record.{number_from, rank_of}
@@ -35,25 +36,24 @@ rank_below s b =
 pub rank_rest_below : (s : List ℕ) (at : ℕ) → ((i : ℕ) → get_or s i 0 < 256) → rank_of (take 7 (drop at s)) < 2 ^ 56
 rank_rest_below s at b = rank_below (drop at s) (Below-drop 256 (lit< tt) at s b)
 
--- the loop of `rank` after i octets
-module _ (s : List ℕ) (n i : ℕ) (h : number_from n (take (7 - i) (drop i s)) ≡ rank_of (take 7 s)) where
-  pub rank_cut : length s ≤ i → n ≡ rank_of (take 7 s)
-  unfolding number_from
-  rank_cut c = rw (drop_of_length-le s {i = i} c, take-nil) at h
+-- the front that the loop of `rank` goes over
+pub rank_front : (s : List ℕ) → number_from 0 (take (min (length s) 7) s) ≡ rank_of (take 7 s)
+unfolding rank_of
+rank_front s =
+    let e : min (length s) 7 ≡ min 7 (length s) = omega arith in
+    ap (number_from 0) (rw e (take_min 7 s))
 
-  pub rank_next : i < 7 → i < length s → number_from (n * 256 + get_or s i 0) (take (7 - (i + 1)) (drop (i + 1) s)) ≡ rank_of (take 7 s)
+-- the loop of `rank` after i octets of the front
+module _ (s front : List ℕ) (n i : ℕ) (h : number_from n (drop i front) ≡ rank_of (take 7 s)) where
+  pub rank_next : i < length front → number_from (n * 256 + get_or front i 0) (drop (i + 1) front) ≡ rank_of (take 7 s)
   unfolding number_from
-  rank_next p q =
-      let e : 7 - i ≡ suc (7 - (i + 1)) = omega arith in
-      rw (e, drop-cons s i 0 q, ← add-one i) at h
+  rank_next q = rw (drop-cons front i 0 q, ← add-one i) at h
 
   -- what a turn makes fits
-  pub rank_fits : ((j : ℕ) → get_or s j 0 < 256) → i < 7 → i < length s → n * 256 + get_or s i 0 < 2 ^ 56
-  rank_fits b p q =
-      omega (arith, rank_next p q, number_grows (n * 256 + get_or s i 0) (take (7 - (i + 1)) (drop (i + 1) s)), rank_below s b)
+  pub rank_fits : ((j : ℕ) → get_or s j 0 < 256) → i < length front → n * 256 + get_or front i 0 < 2 ^ 56
+  rank_fits b q =
+      omega (arith, rank_next q, number_grows (n * 256 + get_or front i 0) (drop (i + 1) front), rank_below s b)
 
-  pub rank_done : 7 ≤ i → n ≡ rank_of (take 7 s)
+  pub rank_done : length front ≤ i → n ≡ rank_of (take 7 s)
   unfolding number_from
-  rank_done p =
-      let e : 7 - i ≡ 0 = omega arith in
-      rw e at h
+  rank_done q = rw (drop_of_length-le front {i = i} q) at h

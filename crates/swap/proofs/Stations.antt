@@ -1,6 +1,6 @@
 -- From the cursor that starting on a file gives, a station's records that are asked for come out, all of them and no others, in the file's order, and then the end.
 use Prim.Native.Nat.{ℕ, zero, suc, ◌<◌}
-use mathlib.Core.Path.{◌≡◌, refl, sym, ◌∙◌}
+use mathlib.Core.Path.{◌≡◌, refl, sym, ap, ◌∙◌}
 use mathlib.Core.Bool.{Bool, true, false, cond}
 use mathlib.Core.List.{List, ◌∷◌}
 use lib.ListN.{get_or}
@@ -14,7 +14,7 @@ use Rattle.swap.specs.Record.{Record}
 use Rattle.swap.specs.Reading.{listed, read_file}
 use Rattle.swap.specs.Cursor.{Standing, record_here, file_end, start_of, next_at, Shows, GivesNext, GivesAll, ended, further, Led, moved}
 use Rattle.swap.specs.Station.{chosen, first_of, wanted_entry, wanted_record, next_asked, records_asked}
-use Rattle.swap.proofs.Walking.{started_gives_all, led_gives_all}
+use Rattle.swap.proofs.Walking.{next_left, started_gives_all, led_gives_all}
 use Rattle.swap.proofs.Searching.{first_end, first_none, first_found, first_other}
 
 module _ (asked : Asked) (ads s : List ℕ) where
@@ -96,3 +96,28 @@ module _ (asked : Asked) (ads s : List ℕ) where
   -- a cursor at which no record of the file stands is none for a search either
   pub refused_there : (c : Cursor) → next_at s c ≡ refused faulty_file → next_asked asked ads s c ≡ refused faulty_file
   refused_there c e = sym (first_none asked ads s c e)
+
+  -- what it gives leaves fewer records than there were, so that one search after another comes to an end
+  pub asked_left : (c : Cursor) (e : Entry) (after : Cursor) → next_asked asked ads s c ≡ given (record_here e after) → after.left.0 < c.left.0
+  unfolding next_asked first_of chosen
+  asked_left c e after h = go c.left.0 c h
+    where
+      go : (k : ℕ) (c : Cursor) → first_of k (wanted_entry asked ads s) s c ≡ given (record_here e after) → after.left.0 < c.left.0
+      go zero c h = let z : ◌≡◌ {A = ℕ} 0 1 = cc in let y : ⊥ = omega arith in absurd y
+      go (suc k) c h = step (next_at s c) refl h (go k)
+        where
+          Later : Type 0
+          Later = (d : Cursor) → first_of k (wanted_entry asked ads s) s d ≡ given (record_here e after) → after.left.0 < d.left.0
+
+          step : (a : Answer Standing) → next_at s c ≡ a → chosen (wanted_entry asked ads s) (first_of k (wanted_entry asked ads s) s) a ≡ given (record_here e after) → Later → after.left.0 < c.left.0
+          step (given file_end) p q ih = let z : ◌≡◌ {A = ℕ} 0 1 = cc in let y : ⊥ = omega arith in absurd y
+          step (given (record_here f d)) p q ih = test (wanted_entry asked ads s f) q
+            where
+              test : (b : Bool) → cond b (given (record_here f d)) (first_of k (wanted_entry asked ads s) s d) ≡ given (record_here e after) → after.left.0 < c.left.0
+              test true r =
+                  let same : d ≡ after = cc in
+                  let l : d.left.0 ≡ after.left.0 = ap (λ (x : Cursor). x.left.0) same in
+                  omega (arith, next_left s c f d p)
+              test false r = omega (arith, next_left s c f d p, ih d r)
+          step (refused n) p q ih = let z : ◌≡◌ {A = ℕ} 0 1 = cc in let y : ⊥ = omega arith in absurd y
+          step (refused_at n o) p q ih = let z : ◌≡◌ {A = ℕ} 0 1 = cc in let y : ⊥ = omega arith in absurd y

@@ -7,12 +7,12 @@ use native.Mathlib.Numerals.{add-one}
 use native.Mathlib.Omega.{arith}
 use lib.ListN.{length, get_or, take, drop, length-drop, drop_of_length-le}
 use lib.Seq.{drop-drop, drop-cons}
-use Rattle.numbers.specs.declared.Octets.{Octets}
 use Rattle.numbers.specs.Counts.{in_octets}
 use Rattle.numbers.specs.Answer.{Answer, given, refused_at}
 use Rattle.numbers.specs.Table.{faulty_file}
 use Rattle.swap.specs.declared.item.Entry.{Entry}
-use Rattle.swap.specs.declared.item.Item.TheVariants.{Good, Bad}
+use Rattle.std.specs.Prelude.{Ok, Err}
+use Rattle.swap.specs.declared.file.Fault.{Fault}
 use Rattle.swap.specs.declared.file.RecordCount.{RecordCount}
 use Rattle.swap.specs.Record.{Record, rank_of, kind_of}
 use Rattle.swap.specs.Items.{Judged, bad, good, judged, front_record}
@@ -45,19 +45,19 @@ tallied_more k r (faulty o) = refl
 tallied_more k r (listed rs) = let e : k + suc (length rs) ≡ k + 1 + length rs = omega arith in rw e
 
 -- what an item placed in the file says of the octets there
-pub item_bad : (least : ℕ) (s : List ℕ) (at : ℕ) (o : Octets) → item_at least s at ≡ Bad o → (p : ℕ) × (judged least (drop at s) ≡ bad p) × (o ≡ in_octets (at + p))
+pub item_bad : (least : ℕ) (s : List ℕ) (at : ℕ) (o : Fault) → item_at least s at ≡ Err o → (p : ℕ) × (judged least (drop at s) ≡ bad p) × (o ≡ record { 0 = in_octets (at + p) })
 unfolding item_at placed_item
 item_bad least s at o e = go (judged least (drop at s)) refl e
   where
-    go : (j : Judged) → judged least (drop at s) ≡ j → placed_item at (kind_of (get_or (drop at s) 7 0)) (drop at s) j ≡ Bad o → (p : ℕ) × (judged least (drop at s) ≡ bad p) × (o ≡ in_octets (at + p))
-    go (bad p) q r = let z : in_octets (at + p) ≡ o = cc in (p, q, sym z)
+    go : (j : Judged) → judged least (drop at s) ≡ j → placed_item at (kind_of (get_or (drop at s) 7 0)) (drop at s) j ≡ Err o → (p : ℕ) × (judged least (drop at s) ≡ bad p) × (o ≡ record { 0 = in_octets (at + p) })
+    go (bad p) q r = let z : record { 0 = in_octets (at + p) } ≡ o = cc in (p, q, sym z)
     go (good w n) q r = let z : ◌≡◌ {A = ℕ} 0 1 = cc in let y : ⊥ = omega arith in absurd y
 
-pub item_good : (least : ℕ) (s : List ℕ) (at : ℕ) (e : Entry) → item_at least s at ≡ Good e → (w : ℕ) × (judged least (drop at s) ≡ good w e.length.0) × (e.from.0 ≡ at + 8 + w)
+pub item_good : (least : ℕ) (s : List ℕ) (at : ℕ) (e : Entry) → item_at least s at ≡ Ok e → (w : ℕ) × (judged least (drop at s) ≡ good w e.length.0) × (e.from.0 ≡ at + 8 + w)
 unfolding item_at placed_item
 item_good least s at e q = go (judged least (drop at s)) refl q
   where
-    go : (j : Judged) → judged least (drop at s) ≡ j → placed_item at (kind_of (get_or (drop at s) 7 0)) (drop at s) j ≡ Good e → (w : ℕ) × (judged least (drop at s) ≡ good w e.length.0) × (e.from.0 ≡ at + 8 + w)
+    go : (j : Judged) → judged least (drop at s) ≡ j → placed_item at (kind_of (get_or (drop at s) 7 0)) (drop at s) j ≡ Ok e → (w : ℕ) × (judged least (drop at s) ≡ good w e.length.0) × (e.from.0 ≡ at + 8 + w)
     go (bad p) q r = let z : ◌≡◌ {A = ℕ} 0 1 = cc in let y : ⊥ = omega arith in absurd y
     go (good w n) q r =
         let z : record { at = in_octets at; tab = get_or (drop at s) 6 0; kind = kind_of (get_or (drop at s) 7 0); from = in_octets (at + 8 + w); length = in_octets n } ≡ e = cc in
@@ -77,15 +77,16 @@ tally_start s count start h =
     record { counted = omega arith; within = h; due = rw z (sym (tallied_none (read_records count 0 start (drop start s)))) }
 
 -- a bad item ends it
-pub tally_bad : (s : List ℕ) (count : ℕ) (v : Answer RecordCount) (at left least : ℕ) (o : Octets) → Tallied s count v at left least → 0 < left → item_at least s at ≡ Bad o → refused_at faulty_file o ≡ v
+pub tally_bad : (s : List ℕ) (count : ℕ) (v : Answer RecordCount) (at left least : ℕ) (o : Fault) → Tallied s count v at left least → 0 < left → item_at least s at ≡ Err o → refused_at faulty_file o.0 ≡ v
 unfolding tallied
 tally_bad s count v at zero least o t h e = let z : ⊥ = omega arith in absurd z
 tally_bad s count v at (suc left) least o t h e =
     let b = item_bad least s at o e in
-    sym (t.due ∙ rw (records_bad left least at (drop at s) b.0 b.1, ← b.2))
+    let p : in_octets (at + b.0) ≡ o.0 = ap (λ (f : Fault). f.0) (sym b.2) in
+    sym (t.due ∙ rw (records_bad left least at (drop at s) b.0 b.1, p))
 
 -- a good one leads to the next record
-pub tally_good : (s : List ℕ) (count : ℕ) (v : Answer RecordCount) (at left least : ℕ) (e : Entry) → Tallied s count v at left least → 0 < left → item_at least s at ≡ Good e → Tallied s count v (e.from.0 + e.length.0) (left - 1) (rank_of (take 7 (drop at s)) + 1)
+pub tally_good : (s : List ℕ) (count : ℕ) (v : Answer RecordCount) (at left least : ℕ) (e : Entry) → Tallied s count v at left least → 0 < left → item_at least s at ≡ Ok e → Tallied s count v (e.from.0 + e.length.0) (left - 1) (rank_of (take 7 (drop at s)) + 1)
 tally_good s count v at zero least e t h q = let z : ⊥ = omega arith in absurd z
 tally_good s count v at (suc left) least e t h q =
     let g = item_good least s at e q in

@@ -12,8 +12,8 @@ use Rattle.numbers.specs.Answer.{given, refused}
 use Rattle.numbers.specs.Table.{faulty_file}
 use Rattle.number.specs.Groups.{encoded}
 use Rattle.swap.specs.declared.item.Entry.{Entry}
-use Rattle.swap.specs.declared.item.Item.{Item}
-use Rattle.swap.specs.declared.item.Item.TheVariants.{Good, Bad}
+use Rattle.std.specs.Prelude.{Result, Ok, Err}
+use Rattle.swap.specs.declared.file.Fault.{Fault}
 use Rattle.swap.specs.Record.{Record, Sound, kind_of}
 use Rattle.swap.specs.Encoding.{record_octets, records_octets, encode, Within}
 use Rattle.swap.specs.Reading.{FileListing, faulty, listed, read_file, in_record_count}
@@ -30,19 +30,19 @@ pub next_left : (s : List ℕ) (c : Cursor) (e : Entry) (after : Cursor) → nex
 unfolding next_at followed
 next_left s c e after h = go c.left.0 refl (item_at 0 s c.at.0) refl
   where
-    go : (l : ℕ) → c.left.0 ≡ l → (i : Item) → item_at 0 s c.at.0 ≡ i → c.left.0 ≡ suc after.left.0
+    go : (l : ℕ) → c.left.0 ≡ l → (i : Result Entry Fault) → item_at 0 s c.at.0 ≡ i → c.left.0 ≡ suc after.left.0
     go zero p i q =
         let r : given file_end ≡ given (record_here e after) = rw (eq-eqb c.left.0 0 p) at h in
         let z : ◌≡◌ {A = ℕ} 0 1 = cc in
         let y : ⊥ = omega arith in
         absurd y
-    go (suc l) p (Bad o) q =
+    go (suc l) p (Err o) q =
         let m : c.left.0 ≡ 0 → ⊥ = λ w. omega arith in
         let r : refused faulty_file ≡ given (record_here e after) = rw (ne_eqb c.left.0 0 m, q) at h in
         let z : ◌≡◌ {A = ℕ} 0 1 = cc in
         let y : ⊥ = omega arith in
         absurd y
-    go (suc l) p (Good g) q =
+    go (suc l) p (Ok g) q =
         let m : c.left.0 ≡ 0 → ⊥ = λ w. omega arith in
         let r : given (record_here g (record { at = in_octets (g.from.0 + g.length.0); left = in_record_count (c.left.0 - 1) })) ≡ given (record_here e after) = rw (ne_eqb c.left.0 0 m, q) at h in
         let a : record { at = in_octets (g.from.0 + g.length.0); left = in_record_count (c.left.0 - 1) } ≡ after = cc in
@@ -59,7 +59,7 @@ module _ (s : List ℕ) (at : ℕ) (r : Record) (rest : List ℕ) (sound : Sound
   abbrev placed : Entry
   placed = record { at = in_octets at; tab = r.tab; kind = kind_of r.kind; from = in_octets (at + 8 + length (encoded (length r.content))); length = in_octets (length r.content) }
 
-  item_placed : item_at 0 s at ≡ Good placed
+  item_placed : item_at 0 s at ≡ Ok placed
   unfolding item_at placed_item
   item_placed =
       rw (shown-good 0 (drop at s) _ _ (record_shown r rest (drop at s) sound.address is sound 0 (omega arith)), tab_next r rest (drop at s) sound.address is, kind_next r rest (drop at s) sound.address is)

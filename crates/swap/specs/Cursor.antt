@@ -1,34 +1,30 @@
 -- Reading a file record by record (01, Swap file), with what a cursor that is not one of the file's answers.
-use Rattle.std.specs.Prelude.{ℕ, ◌+◌, ◌-◌, ◌≡◌, cond, List, [], ◌∷◌, leb, eqb, length, get_or, take, drop, replicate}
+use Rattle.std.specs.Prelude.{Option, Some, None, Result, Ok, Err, ℕ, ◌+◌, ◌-◌, ◌≡◌, cond, List, [], ◌∷◌, leb, eqb, length, get_or, take, drop, replicate}
 use Rattle.numbers.specs.Counts.{in_octets}
 use Rattle.numbers.specs.Answer.{Answer, given, refused, refused_at}
 use Rattle.numbers.specs.Table.{faulty_file}
 use Rattle.number.specs.Groups.{encoded}
 use Rattle.swap.specs.declared.kind.Kind.{Kind}
 use Rattle.swap.specs.declared.item.Entry.{Entry}
-use Rattle.swap.specs.declared.item.Item.{Item}
-use Rattle.swap.specs.declared.item.Item.TheVariants.{Good, Bad}
+use Rattle.swap.specs.declared.file.Fault.{Fault}
 use Rattle.swap.specs.declared.cursor.Cursor.{Cursor}
-use Rattle.swap.specs.declared.cursor.Next.{Next}
-use Rattle.swap.specs.declared.cursor.Next.TheVariants as next
-use Rattle.swap.specs.declared.cursor.Started.{Started}
-use Rattle.swap.specs.declared.cursor.Started.TheVariants as started_as
+use Rattle.swap.specs.declared.cursor.NoRecord.{NoRecord}
 use Rattle.swap.specs.Record.{Record, kind_octet, kind_of}
 use Rattle.swap.specs.Encoding.{records_octets}
 use Rattle.swap.specs.Items.{Judged, bad, good, judged, judged_content, length_field}
 use Rattle.swap.specs.Reading.{FileListing, faulty, listed, read_file, in_record_count}
 
 -- what was judged of the octets s from an offset on, with its place in the file
-unfoldable pub placed_item : ℕ → Kind → List ℕ → Judged → Item
-placed_item at kind s (bad o) = Bad (in_octets (at + o))
-placed_item at kind s (good w n) = Good (record { at = in_octets at; tab = get_or s 6 0; kind = kind; from = in_octets (at + 8 + w); length = in_octets n })
+unfoldable pub placed_item : ℕ → Kind → List ℕ → Judged → Result Entry Fault
+placed_item at kind s (bad o) = Err (record { 0 = in_octets (at + o) })
+placed_item at kind s (good w n) = Ok (record { at = in_octets at; tab = get_or s 6 0; kind = kind; from = in_octets (at + 8 + w); length = in_octets n })
 
 -- the items of a record from an offset on
-unfoldable pub item_at : ℕ → List ℕ → ℕ → Item
+unfoldable pub item_at : ℕ → List ℕ → ℕ → Result Entry Fault
 item_at least s at = placed_item at (kind_of (get_or (drop at s) 7 0)) (drop at s) (judged least (drop at s))
 
 -- its length and data
-unfoldable pub content_at : Kind → List ℕ → ℕ → Item
+unfoldable pub content_at : Kind → List ℕ → ℕ → Result Entry Fault
 content_at kind s at = placed_item at kind (drop at s) (judged_content kind (length_field kind (drop (at + 8) s)) (drop (at + 8) s))
 
 -- the cursor of a file with so many records, after the first of them
@@ -36,9 +32,9 @@ unfoldable pub cursor_after : ℕ → List Record → Cursor
 cursor_after count passed = record { at = in_octets (length (encoded count) + length (records_octets passed)); left = in_record_count (count - length passed) }
 
 -- the number and values of each case
-abbrev pub answer_of_started : Started → Answer Cursor
-answer_of_started (started_as.First c) = given c
-answer_of_started (started_as.Fault offset) = refused_at faulty_file offset
+abbrev pub answer_of_started : Result Cursor Fault → Answer Cursor
+answer_of_started (Ok c) = given c
+answer_of_started (Err fault) = refused_at faulty_file fault.0
 
 abbrev pub started : FileListing → Answer Cursor
 started (faulty o) = refused_at faulty_file (in_octets o)
@@ -54,14 +50,14 @@ pub data Standing : Type 0 where
   file_end : Standing
 
 -- 01, Numbers handed back: 18 where no record of the file stands; a record and the end have no number
-abbrev pub answer_of_next : Next → Answer Standing
-answer_of_next (next.Record e after) = given (record_here e after)
-answer_of_next next.End = given file_end
-answer_of_next next.NoRecord = refused faulty_file
+abbrev pub answer_of_next : Result (Option (Entry × Cursor)) NoRecord → Answer Standing
+answer_of_next (Ok (Some found)) = given (record_here found.0 found.1)
+answer_of_next (Ok None) = given file_end
+answer_of_next (Err no_record) = refused faulty_file
 
-unfoldable pub followed : ℕ → Item → Answer Standing
-followed left (Bad o) = refused faulty_file
-followed left (Good e) = given (record_here e (record { at = in_octets (e.from.0 + e.length.0); left = in_record_count (left - 1) }))
+unfoldable pub followed : ℕ → Result Entry Fault → Answer Standing
+followed left (Err fault) = refused faulty_file
+followed left (Ok e) = given (record_here e (record { at = in_octets (e.from.0 + e.length.0); left = in_record_count (left - 1) }))
 
 -- the record that stands at a cursor, judged by its own items alone: 18 where none does
 unfoldable pub next_at : List ℕ → Cursor → Answer Standing

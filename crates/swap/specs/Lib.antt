@@ -1,4 +1,5 @@
 pub mod Record
+pub mod Kind
 pub mod Encoding
 pub mod Items
 pub mod Reading

@@ -1,12 +1,11 @@
 -- Reading a whole file: its records, or the start of its first bad item (01, Swap file).
-use Rattle.std.specs.Prelude.{ℕ, zero, suc, ◌+◌, cond, List, [], ◌∷◌, ltb, length, take, drop}
+use Rattle.std.specs.Prelude.{Result, Ok, Err, ℕ, zero, suc, ◌+◌, cond, List, [], ◌∷◌, ltb, length, take, drop}
 use Rattle.numbers.specs.Counts.{in_octets}
 use Rattle.numbers.specs.Answer.{Answer, given, refused_at}
 use Rattle.numbers.specs.Table.{faulty_file}
 use Rattle.number.specs.Groups.{Front, found, none, front_number}
 use Rattle.swap.specs.declared.file.RecordCount.{RecordCount}
-use Rattle.swap.specs.declared.file.Verdict.{Verdict}
-use Rattle.swap.specs.declared.file.Verdict.TheVariants.{Accepted, Fault}
+use Rattle.swap.specs.declared.file.Fault.{Fault}
 use Rattle.swap.specs.Record.{Record, rank_of, count_limit, file_limit}
 use Rattle.swap.specs.Items.{judged, bad, good, front_record, limited}
 
@@ -40,9 +39,9 @@ abbrev pub in_record_count : ℕ → RecordCount
 in_record_count count = record { 0 = count }
 
 -- the number and values of each case
-abbrev pub answer_of_verdict : Verdict → Answer RecordCount
-answer_of_verdict (Accepted count) = given count
-answer_of_verdict (Fault offset) = refused_at faulty_file offset
+abbrev pub answer_of_verdict : Result RecordCount Fault → Answer RecordCount
+answer_of_verdict (Ok count) = given count
+answer_of_verdict (Err fault) = refused_at faulty_file fault.0
 
 -- 01, Swap file: "A fault is 18 with an offset"; an accepted file has its count of records
 abbrev pub answer_of_listing : FileListing → Answer RecordCount

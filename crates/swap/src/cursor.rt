@@ -2,77 +2,51 @@
 ghost use Rattle.std.specs.Prelude.{◌≡◌};
 ghost use Rattle.swap.specs.Cursor.{answer_of_started, start_of, answer_of_next, next_at, ads_of, content_of};
 
-use crate::file::{RecordCount, Verdict, judge};
-use crate::item::{Entry, Item, item_at};
+use crate::file::{Fault, RecordCount, judge};
+use crate::item::{Entry, item_at};
 use numbers::Octets;
 
 // Where the next record stands, and how many are left from there on.
-#[derive(Clone, Copy)]
+#[derive(Clone, Copy, Debug, PartialEq, Eq)]
 pub struct Cursor {
     pub at: Octets,
     pub left: RecordCount,
 }
 
-// What starting answers: the cursor of the first record, or the start of the first bad item of a faulty file.
-#[derive(Clone, Copy)]
-pub enum Started {
-    First(Cursor),
-    Fault(Octets),
-}
+// No record stands at a cursor: it is not one of this file.
+#[derive(Clone, Copy, Debug, PartialEq, Eq)]
+pub struct NoRecord;
 
-// What stands at a cursor: a record with the cursor after it, the end, or no record, where the cursor is not one of this file.
-#[derive(Clone, Copy)]
-pub enum Next {
-    Record(Entry, Cursor),
-    End,
-    NoRecord,
-}
-
-// Judges the whole file, so that no file is walked whose records would not all come out.
-pub fn start(file: &[u8]) -> Started
+// The cursor of the first record. Judges the whole file, so that no file is walked whose records would not all come out.
+pub fn start(file: &[u8]) -> Result<Cursor, Fault>
     ensures { answer_of_started result ≡ start_of file.now }
 {
-    let verdict = judge(file);
-    match verdict {
-        Verdict::Fault(offset) => Started::Fault(offset),
-        Verdict::Accepted(records) => {
-            let count = records.0;
-            Started::First(Cursor {
-                at: number::width(count as u32),
-                left: records,
-            })
-        }
-    }
+    let left = judge(file)?;
+    Ok(Cursor {
+        at: number::width(left.0 as u32),
+        left,
+    })
 }
 
 impl Cursor {
-    // The record at the cursor. Its items are judged anew, but not its order, so that no cursor leads out of the file.
-    pub fn next(self, file: &[u8]) -> Next
+    // The record at the cursor, with the cursor after it; none at the end. Its items are judged anew, but not its order, so that no cursor leads out of the file.
+    pub fn next(self, file: &[u8]) -> Result<Option<(Entry, Cursor)>, NoRecord>
         ensures { answer_of_next result ≡ next_at file.now self }
     {
-        let place = self.at;
-        let at = place.0;
-        let records = self.left;
-        let left = records.0;
-        if left == 0 {
-            return Next::End;
+        if self.left.0 == 0 {
+            return Ok(None);
         }
-        if file.len() < at {
-            return Next::NoRecord;
+        if file.len() < self.at.0 {
+            return Err(NoRecord);
         }
-        let item = item_at(file, at, 0);
-        match item {
-            Item::Bad(_) => Next::NoRecord,
-            Item::Good(entry) => {
-                let from = entry.from;
-                let length = entry.length;
-                let after = Cursor {
-                    at: Octets(from.0 + length.0),
-                    left: RecordCount(left - 1),
-                };
-                Next::Record(entry, after)
-            }
-        }
+        let Ok(entry) = item_at(file, self.at.0, 0) else {
+            return Err(NoRecord);
+        };
+        let after = Cursor {
+            at: Octets(entry.from.0 + entry.length.0),
+            left: RecordCount(self.left.0 - 1),
+        };
+        Ok(Some((entry, after)))
     }
 }
 
@@ -80,28 +54,20 @@ impl Cursor {
 pub fn ads(file: &[u8], entry: Entry) -> [u8; 6]
     ensures { result ≡ ads_of file.now entry }
 {
-    let place = entry.at;
-    let at = place.0;
-    if file.len() < at {
+    if file.len() < entry.at.0 {
         return [0; 6];
     }
-    octets::six(octets::part(&file[at..], 0, 6))
+    octets::padded(octets::part(&file[entry.at.0..], 0, 6))
 }
 
 // The data of a record, as a part of the file; none where the file has no such part.
 pub fn content(file: &[u8], entry: Entry) -> &[u8]
     ensures { result.now ≡ content_of file.now entry }
 {
-    let place = entry.from;
-    let from = place.0;
-    let length = entry.length;
-    let count = length.0;
-    if file.len() < count {
+    let from = entry.from.0;
+    let count = entry.length.0;
+    if file.len() < count || file.len() - count < from {
         return &file[..0];
     }
-    if file.len() - count < from {
-        return &file[..0];
-    }
-    let end = from + count;
-    &file[from..end]
+    &file[from..from + count]
 }

@@ -6,8 +6,8 @@ pub mod item;
 pub mod kind;
 pub mod station;
 
-pub use cursor::{Cursor, Next, Started};
-pub use file::{RecordCount, Verdict, judge};
+pub use cursor::{Cursor, NoRecord};
+pub use file::{Fault, RecordCount, judge};
 pub use item::Entry;
 pub use kind::Kind;
 pub use station::{next_for, next_to_program};

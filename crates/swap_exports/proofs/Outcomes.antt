@@ -9,13 +9,12 @@ use Rattle.numbers.specs.Table.{none, faulty_file}
 use Rattle.swap.specs.declared.file.RecordCount.{RecordCount}
 use Rattle.swap.specs.declared.item.Entry.{Entry}
 use Rattle.swap.specs.declared.cursor.Cursor.{Cursor}
-use Rattle.swap.specs.declared.cursor.Next.{Next}
-use Rattle.swap.specs.declared.cursor.Next.TheVariants as next
+use Rattle.swap.specs.declared.cursor.NoRecord.{NoRecord}
 use Rattle.swap.specs.Record.{kind_octet}
 use Rattle.swap.specs.Cursor.{Standing, answer_of_next, ads_of}
 use Rattle.swap_list.specs.declared.RecordList.{RecordList}
-use Rattle.swap_list.specs.declared.Added.{Added}
-use Rattle.swap_list.specs.declared.Added.TheVariants.{Kept, Fault}
+use Rattle.std.specs.Prelude.{Option, Some, None, Result, Ok, Err}
+use Rattle.swap.specs.declared.file.Fault.{Fault}
 use Rattle.swap_list.specs.Adding.{Outcome, answer_of_added}
 use Rattle.swap_exports.specs.Reports.{judged_as, started_as, Shown, nothing, shown, written_as, counts_as, added_as}
 
@@ -37,16 +36,16 @@ module _ (a : Answer Cursor) (at left offset : ℕ) where
   unfolding started_as
   started_fault n o e = rw (← e)
 
-module _ (a : Next) (s : List ℕ) (b : Shown) where
-  pub shown_end : a ≡ next.End → nothing none b ≡ shown (answer_of_next a) s b
+module _ (a : Result (Option (Entry × Cursor)) NoRecord) (s : List ℕ) (b : Shown) where
+  pub shown_end : a ≡ Ok None → nothing none b ≡ shown (answer_of_next a) s b
   unfolding shown
   shown_end e = rw e
 
-  pub shown-none : a ≡ next.NoRecord → nothing faulty_file b ≡ shown (answer_of_next a) s b
+  pub shown-none : (no_record : NoRecord) → a ≡ Err no_record → nothing faulty_file b ≡ shown (answer_of_next a) s b
   unfolding shown
-  shown-none e = rw e
+  shown-none no_record e = rw e
 
-  pub shown_record : (entry : Entry) (after : Cursor) (its : List ℕ) (octet : ℕ) → a ≡ next.Record entry after → its ≡ ads_of s entry → octet ≡ kind_octet entry.kind → record { number = none; at = after.at.0; left = after.left.0; found = true; ads = its; tab = entry.tab; kind = octet; from = entry.from.0; length = entry.length.0 } ≡ shown (answer_of_next a) s b
+  pub shown_record : (entry : Entry) (after : Cursor) (its : List ℕ) (octet : ℕ) → a ≡ Ok (Some (entry, after)) → its ≡ ads_of s entry → octet ≡ kind_octet entry.kind → record { number = none; at = after.at.0; left = after.left.0; found = true; ads = its; tab = entry.tab; kind = octet; from = entry.from.0; length = entry.length.0 } ≡ shown (answer_of_next a) s b
   unfolding shown
   shown_record entry after its octet e i k = rw (e, i, k)
 
@@ -67,11 +66,11 @@ module _ (a : Answer Octets) (b t : List ℕ) (length offset : ℕ) (left : b �
   unfolding written_as
   written_short n e = rw (← e, left)
 
-module _ (x : Outcome) (heads contents : List ℕ) (records octets offset : ℕ) (answer : Added) (is : record { answer = answer_of_added answer; heads = heads; contents = contents } ≡ x) where
-  pub added_kept : (list : RecordList) → answer ≡ Kept list → record { number = none; heads = heads; contents = contents; records = list.records.0; octets = list.octets.0; offset = offset } ≡ added_as x records octets offset
+module _ (x : Outcome) (heads contents : List ℕ) (records octets offset : ℕ) (answer : Result RecordList Fault) (is : record { answer = answer_of_added answer; heads = heads; contents = contents } ≡ x) where
+  pub added_kept : (list : RecordList) → answer ≡ Ok list → record { number = none; heads = heads; contents = contents; records = list.records.0; octets = list.octets.0; offset = offset } ≡ added_as x records octets offset
   unfolding added_as counts_as
   added_kept list e = rw (← is, e)
 
-  pub added_fault : (o : Octets) → answer ≡ Fault o → record { number = faulty_file; heads = heads; contents = contents; records = records; octets = octets; offset = o.0 } ≡ added_as x records octets offset
+  pub added_fault : (o : Fault) → answer ≡ Err o → record { number = faulty_file; heads = heads; contents = contents; records = records; octets = octets; offset = o.0.0 } ≡ added_as x records octets offset
   unfolding added_as counts_as
   added_fault o e = rw (← is, e)

@@ -7,7 +7,7 @@ ghost use Rattle.swap_exports.specs.Reports.{added_as};
 
 use numbers::{Octets, table};
 use swap::RecordCount;
-use swap_list::{Added, CONTENTS_SIZE, HEADS_SIZE, RecordList};
+use swap_list::{CONTENTS_SIZE, HEADS_SIZE, RecordList};
 
 // 0 with the next list's two counts, or 18 with the offset; a refusal leaves both arrays and both counts.
 #[unsafe(no_mangle)]
@@ -22,24 +22,20 @@ pub extern "C" fn propolisk_swap_add(
     content: &[u8],
     offset: &mut usize,
 ) -> u8
-    ensures { record { number = result; heads = heads.new; contents = contents.new; records = records.exit.now; octets = octets.new; offset = offset.new } ≡ added_as (adding (record { records = in_record_count records.entry.now; octets = in_octets octets.old }) (record_of ads.now tab kind content.now) heads.old contents.old) records.entry.now octets.old offset.old }
+    ensures { record { number = result; heads = heads.new; contents = contents.new; records = records.new; octets = octets.new; offset = offset.new } ≡ added_as (adding (record { records = in_record_count records.old; octets = in_octets octets.old }) (record_of ads.now tab kind content.now) heads.old contents.old) records.old octets.old offset.old }
 {
     let list = RecordList {
         records: RecordCount(*records),
         octets: Octets(*octets),
     };
-    let its_ads = *ads;
-    let added = list.add_with_octet(heads, contents, its_ads, tab, kind, content);
-    match added {
-        Added::Kept(next) => {
-            let count = next.records;
-            let sum = next.octets;
-            *records = count.0;
-            *octets = sum.0;
+    match list.add_with_octet(heads, contents, *ads, tab, kind, content) {
+        Ok(next) => {
+            *records = next.records.0;
+            *octets = next.octets.0;
             table::NONE
         }
-        Added::Fault(start) => {
-            *offset = start.0;
+        Err(fault) => {
+            *offset = fault.0.0;
             table::FAULTY_FILE
         }
     }

@@ -7,21 +7,20 @@ ghost use Rattle.swap.specs.Station.{next_for, next_to_program};
 ghost use Rattle.swap_exports.specs.Reports.{judged_as, started_as, shown};
 
 use numbers::{Octets, table};
-use swap::{Cursor, Next, RecordCount, Started, Verdict};
+use swap::{Cursor, Entry, NoRecord, RecordCount};
 
 // 0 with the count of records, or 18 with the offset; the other cell is kept.
 #[unsafe(no_mangle)]
 pub extern "C" fn propolisk_swap_verdict(file: &[u8], records: &mut usize, offset: &mut usize) -> u8
     ensures { record { number = result; records = records.new; offset = offset.new } ≡ judged_as (verdict_of file.now) records.old offset.old }
 {
-    let verdict = swap::judge(file);
-    match verdict {
-        Verdict::Accepted(count) => {
+    match swap::judge(file) {
+        Ok(count) => {
             *records = count.0;
             table::NONE
         }
-        Verdict::Fault(start) => {
-            *offset = start.0;
+        Err(fault) => {
+            *offset = fault.0.0;
             table::FAULTY_FILE
         }
     }
@@ -37,17 +36,14 @@ pub extern "C" fn propolisk_swap_start(
 ) -> u8
     ensures { record { number = result; at = at.new; left = left.new; offset = offset.new } ≡ started_as (start_of file.now) at.old left.old offset.old }
 {
-    let started = swap::cursor::start(file);
-    match started {
-        Started::First(cursor) => {
-            let records = cursor.left;
-            let place = cursor.at;
-            *at = place.0;
-            *left = records.0;
+    match swap::cursor::start(file) {
+        Ok(cursor) => {
+            *at = cursor.at.0;
+            *left = cursor.left.0;
             table::NONE
         }
-        Started::Fault(start) => {
-            *offset = start.0;
+        Err(fault) => {
+            *offset = fault.0.0;
             table::FAULTY_FILE
         }
     }
@@ -66,7 +62,7 @@ pub extern "C" fn propolisk_swap_next(
     from: &mut usize,
     length: &mut usize,
 ) -> u8
-    ensures { record { number = result; at = at.exit.now; left = left.new; found = found.new; ads = ads.new; tab = tab.new; kind = kind.new; from = from.new; length = length.new } ≡ shown (next_at file.now (record { at = in_octets at.entry.now; left = in_record_count left.old })) file.now (record { number = 0; at = at.entry.now; left = left.old; found = found.old; ads = ads.old; tab = tab.old; kind = kind.old; from = from.old; length = length.old }) }
+    ensures { record { number = result; at = at.new; left = left.new; found = found.new; ads = ads.new; tab = tab.new; kind = kind.new; from = from.new; length = length.new } ≡ shown (next_at file.now (record { at = in_octets at.old; left = in_record_count left.old })) file.now (record { number = 0; at = at.old; left = left.old; found = found.old; ads = ads.old; tab = tab.old; kind = kind.old; from = from.old; length = length.old }) }
 {
     let here = Cursor {
         at: Octets(*at),
@@ -90,14 +86,13 @@ pub extern "C" fn propolisk_swap_next_for(
     from: &mut usize,
     length: &mut usize,
 ) -> u8
-    ensures { record { number = result; at = at.exit.now; left = left.new; found = found.new; ads = ads.new; tab = tab.new; kind = kind.new; from = from.new; length = length.new } ≡ shown (next_for station.now file.now (record { at = in_octets at.entry.now; left = in_record_count left.old })) file.now (record { number = 0; at = at.entry.now; left = left.old; found = found.old; ads = ads.old; tab = tab.old; kind = kind.old; from = from.old; length = length.old }) }
+    ensures { record { number = result; at = at.new; left = left.new; found = found.new; ads = ads.new; tab = tab.new; kind = kind.new; from = from.new; length = length.new } ≡ shown (next_for station.now file.now (record { at = in_octets at.old; left = in_record_count left.old })) file.now (record { number = 0; at = at.old; left = left.old; found = found.old; ads = ads.old; tab = tab.old; kind = kind.old; from = from.old; length = length.old }) }
 {
     let here = Cursor {
         at: Octets(*at),
         left: RecordCount(*left),
     };
-    let its = *station;
-    let next = swap::next_for(here, file, its);
+    let next = swap::next_for(here, file, *station);
     show(next, file, at, left, found, ads, tab, kind, from, length)
 }
 
@@ -115,20 +110,19 @@ pub extern "C" fn propolisk_swap_next_to_program(
     from: &mut usize,
     length: &mut usize,
 ) -> u8
-    ensures { record { number = result; at = at.exit.now; left = left.new; found = found.new; ads = ads.new; tab = tab.new; kind = kind.new; from = from.new; length = length.new } ≡ shown (next_to_program station.now file.now (record { at = in_octets at.entry.now; left = in_record_count left.old })) file.now (record { number = 0; at = at.entry.now; left = left.old; found = found.old; ads = ads.old; tab = tab.old; kind = kind.old; from = from.old; length = length.old }) }
+    ensures { record { number = result; at = at.new; left = left.new; found = found.new; ads = ads.new; tab = tab.new; kind = kind.new; from = from.new; length = length.new } ≡ shown (next_to_program station.now file.now (record { at = in_octets at.old; left = in_record_count left.old })) file.now (record { number = 0; at = at.old; left = left.old; found = found.old; ads = ads.old; tab = tab.old; kind = kind.old; from = from.old; length = length.old }) }
 {
     let here = Cursor {
         at: Octets(*at),
         left: RecordCount(*left),
     };
-    let its = *station;
-    let next = swap::next_to_program(here, file, its);
+    let next = swap::next_to_program(here, file, *station);
     show(next, file, at, left, found, ads, tab, kind, from, length)
 }
 
 // An answer in the lent cells.
 fn show(
-    next: Next,
+    next: Result<Option<(Entry, Cursor)>, NoRecord>,
     file: &[u8],
     at: &mut usize,
     left: &mut usize,
@@ -142,28 +136,22 @@ fn show(
     ensures { record { number = result; at = at.new; left = left.new; found = found.new; ads = ads.new; tab = tab.new; kind = kind.new; from = from.new; length = length.new } ≡ shown (answer_of_next next) file.now (record { number = 0; at = at.old; left = left.old; found = found.old; ads = ads.old; tab = tab.old; kind = kind.old; from = from.old; length = length.old }) }
 {
     match next {
-        Next::End => {
+        Ok(None) => {
             *found = false;
             table::NONE
         }
-        Next::NoRecord => {
+        Err(NoRecord) => {
             *found = false;
             table::FAULTY_FILE
         }
-        Next::Record(entry, after) => {
-            let its = swap::cursor::ads(file, entry);
-            let its_kind = entry.kind;
-            let start = entry.from;
-            let count = entry.length;
-            let place = after.at;
-            let records = after.left;
-            *ads = its;
+        Ok(Some((entry, after))) => {
+            *ads = swap::cursor::ads(file, entry);
             *tab = entry.tab;
-            *kind = swap::kind::octet_of(its_kind);
-            *from = start.0;
-            *length = count.0;
-            *at = place.0;
-            *left = records.0;
+            *kind = u8::from(entry.kind);
+            *from = entry.from.0;
+            *length = entry.length.0;
+            *at = after.at.0;
+            *left = after.left.0;
             *found = true;
             table::NONE
         }

@@ -4,7 +4,7 @@ ghost use Rattle.swap_write.specs.Writing.{writing};
 ghost use Rattle.swap_exports.specs.Reports.{written_as};
 
 use numbers::table;
-use swap_write::Written;
+use swap_write::Refusal;
 
 // 0 with the file's length, or 18 with the offset, or 17; a refusal leaves the buffer, and each cell that is not named is kept.
 #[unsafe(no_mangle)]
@@ -17,16 +17,15 @@ pub extern "C" fn propolisk_swap_write(
 ) -> u8
     ensures { record { number = result; buffer = buffer.new; length = length.new; offset = offset.new } ≡ written_as (writing heads.now contents.now buffer.old).answer (writing heads.now contents.now buffer.old).buffer length.old offset.old }
 {
-    let written = swap_write::write(heads, contents, buffer);
-    match written {
-        Written::Whole(octets) => {
+    match swap_write::write(heads, contents, buffer) {
+        Ok(octets) => {
             *length = octets.0;
             table::NONE
         }
-        Written::Fault(start) => {
-            *offset = start.0;
+        Err(Refusal::Fault(fault)) => {
+            *offset = fault.0.0;
             table::FAULTY_FILE
         }
-        Written::Short => table::WRONG_LENGTH,
+        Err(Refusal::Short) => table::WRONG_LENGTH,
     }
 }

@@ -1,16 +1,15 @@
 -- A record added to a list that the writer takes, in its place (01, Swap file: "Records rise strictly by ADS then TAB").
-use Rattle.std.specs.Prelude.{ℕ, zero, suc, ◌+◌, ◌*◌, ◌/◌, cond, List, ◌++◌, leb, length, take, drop}
+use Rattle.std.specs.Prelude.{Result, Ok, Err, ℕ, zero, suc, ◌+◌, ◌*◌, ◌/◌, cond, List, ◌++◌, leb, length, take, drop}
 use Rattle.numbers.specs.Counts.{in_octets}
 use Rattle.numbers.specs.Answer.{Answer, given, refused, refused_at}
 use Rattle.octets.specs.Splice.{fronted}
 use Rattle.numbers.specs.Table.{faulty_file}
 use Rattle.swap.specs.declared.file.RecordCount.{RecordCount}
+use Rattle.swap.specs.declared.file.Fault.{Fault}
 use Rattle.swap.specs.Record.{Record, rank_of, count_limit, file_limit}
 use Rattle.swap.specs.Reading.{verdict_of, in_record_count}
 use Rattle.swap_write.specs.Heads.{head_size, head_of, head_length, file_of}
 use Rattle.swap_list.specs.declared.RecordList.{RecordList}
-use Rattle.swap_list.specs.declared.Added.{Added}
-use Rattle.swap_list.specs.declared.Added.TheVariants.{Kept, Fault}
 use Rattle.swap_list.specs.declared.place.Place.{Place}
 
 -- the arrays that are lent with a list: as many heads as a file has records, and as much data as a file has
@@ -58,9 +57,9 @@ pub record Outcome : Type 0 where
   pub contents : List ℕ
 
 -- the number and values of each case
-abbrev pub answer_of_added : Added → Answer RecordList
-answer_of_added (Kept list) = given list
-answer_of_added (Fault offset) = refused_at faulty_file offset
+abbrev pub answer_of_added : Result RecordList Fault → Answer RecordList
+answer_of_added (Ok list) = given list
+answer_of_added (Err fault) = refused_at faulty_file fault.0
 
 -- new heads and contents go to the front of the arrays where their file is accepted; else both arrays stay
 unfoldable pub judged_adding : Answer RecordCount → List ℕ → List ℕ → List ℕ → List ℕ → Outcome

@@ -1,5 +1,5 @@
 // The head of a record, and its place among the heads of a list.
-ghost use Rattle.std.specs.Prelude.{◌≡◌, ◌++◌, ◌∷◌, [], min, ◌/◌, ◌%◌, ◌≤◌, ◌<◌, length};
+ghost use Rattle.std.specs.Prelude.{◌≡◌, ◌++◌, ◌∷◌, [], ◌/◌, ◌%◌, ◌≤◌, ◌<◌, length};
 ghost use Rattle.swap_list.specs.Adding.{heads_size, contents_size, place_of};
 
 use swap::item::rank;
@@ -12,21 +12,16 @@ pub struct Place {
     pub from: usize,
 }
 
-pub(crate) fn at_most(n: usize, most: usize) -> usize
-    ensures { result ≡ min n most }
-{
-    if most < n { most } else { n }
-}
-
 // A head of ten octets: ADS, TAB, kind, and the length of the data, the low octet first.
+// The kind is an octet of a head, which C programs lay too.
 pub(crate) fn head_of(ads: [u8; 6], tab: u8, kind: u8, count: usize) -> [u8; HEAD_SIZE]
     requires { count < contents_size }
     ensures { result ≡ ads ++ tab ∷ kind ∷ count % 256 ∷ count / 256 ∷ [] }
 {
-    let rest = [tab, kind, (count % 256) as u8, (count / 256) as u8];
-    let mut head = [0u8; HEAD_SIZE];
+    let [low, high] = (count as u16).to_le_bytes();
+    let mut head = [0; HEAD_SIZE];
     octets::put(&mut head, 0, &ads);
-    octets::put(&mut head, 6, &rest);
+    octets::put(&mut head, 6, &[tab, kind, low, high]);
     head
 }
 
@@ -35,17 +30,15 @@ pub(crate) fn place_of(heads: &[u8], least: u64) -> Place
     requires { length heads.now ≤ heads_size }
     ensures { result ≡ place_of least heads.now }
 {
-    let mut left = heads.len() / HEAD_SIZE;
-    let mut head: usize = 0;
-    let mut from: usize = 0;
-    while 0 < left {
-        if least < rank(&heads[head..]) {
-            return Place { head, from };
+    let count = heads.len() / HEAD_SIZE;
+    let mut place = Place { head: 0, from: 0 };
+    for _passed in 0..count {
+        let here = &heads[place.head..];
+        if least < rank(here) {
+            return place;
         }
-        let stated = head_length(&heads[head..]);
-        from += stated.0;
-        head += HEAD_SIZE;
-        left -= 1;
+        place.head += HEAD_SIZE;
+        place.from += head_length(here).0;
     }
-    Place { head, from }
+    place
 }

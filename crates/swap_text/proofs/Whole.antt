@@ -9,9 +9,6 @@ use Rattle.octets.specs.Part.{part_of}
 use Rattle.octets.proofs.Splice.{spliced_front, take-fronted, upto_spliced, length-spliced}
 use Rattle.octets.proofs.Parts.{part_front}
 use Rattle.text.proofs.Writing.{Written, after_fits}
-use Rattle.numbers.specs.declared.Octets.{Octets}
-use Rattle.numbers.specs.Counts.{in_octets}
-use Rattle.text.specs.Text.{offset_after}
 use Rattle.text.specs.Quoted.{quoted}
 use Rattle.swap_text.specs.Lines.{line_of}
 
@@ -31,5 +28,5 @@ made m t r b room w =
     (e, rw (e, w.1, spliced_front m t room) (take-fronted t m), rw w.1 (length-spliced m 0 t fits))
 
 -- what is taken over of the array is that text, with its line feed
-pub taken_over : (buffer : List ℕ) (at : ℕ) (part text : List ℕ) (r : Octets) (after_it : List ℕ) → (r ≡ in_octets (offset_after buffer at (line_of part))) × (after_it ≡ spliced buffer at (line_of part)) → part ≡ text → (r ≡ in_octets (offset_after buffer at (line_of text))) × (after_it ≡ spliced buffer at (line_of text))
+pub taken_over : (buffer : List ℕ) (at : ℕ) (part text : List ℕ) (r : ℕ) (after_it : List ℕ) → Written buffer at (line_of part) r after_it → part ≡ text → Written buffer at (line_of text) r after_it
 taken_over buffer at part text r after_it p e = rw e at p

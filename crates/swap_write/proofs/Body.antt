@@ -15,25 +15,25 @@ use Rattle.number.proofs.Forms.{front_form}
 use Rattle.swap.specs.declared.kind.Kind.{Kind}
 use Rattle.swap.specs.Record.{known_kind, kind_of, length_limit, fits_kind, rank_of}
 use Rattle.swap.specs.Items.{Judged, bad, good, judged, judged_content, length_field, limited, good_address, good_kind, good_content}
-use Rattle.swap_write.specs.declared.judge.Head.{Head}
-use Rattle.swap_write.specs.declared.judge.Head.TheVariants.{Good, Bad}
+use Rattle.swap_write.specs.declared.judge.BadItem.{BadItem}
+use Rattle.std.specs.Prelude.{Result, Ok, Err}
 use Rattle.swap_write.specs.Heads.{head_length, front_octets, body_of}
 use Rattle.swap_write.specs.Heading.{data_judged, head_judged}
 
 -- what the reader finds where a head makes this
-abbrev pub as_judged : Head → Judged
-as_judged (Bad o) = bad o.0
-as_judged (Good n) = good (length (encoded n.0)) n.0
+abbrev pub as_judged : Result Octets BadItem → Judged
+as_judged (Err o) = bad o.0.0
+as_judged (Ok n) = good (length (encoded n.0)) n.0
 
 data_laid : (kind : Kind) (n : ℕ) (c : List ℕ) → judged_content kind (limited (length_limit kind) (found n (length (encoded n)))) (encoded n ++ c) ≡ as_judged (data_judged kind n c)
 unfolding judged_content limited data_judged
 data_laid kind n c = go (leb n (length_limit kind))
   where
-    pick : (g : Bool) → cond g (good (length (encoded n)) n) (bad (8 + length (encoded n))) ≡ as_judged (cond g (Good (in_octets n)) (Bad (in_octets (8 + length (encoded n)))))
+    pick : (g : Bool) → cond g (good (length (encoded n)) n) (bad (8 + length (encoded n))) ≡ as_judged (cond g (Ok (in_octets n)) (Err (record { 0 = in_octets (8 + length (encoded n)) })))
     pick true = refl
     pick false = refl
 
-    go : (a : Bool) → judged_content kind (cond a (found n (length (encoded n))) none) (encoded n ++ c) ≡ as_judged (cond a (cond (good_content kind n c) (Good (in_octets n)) (Bad (in_octets (8 + length (encoded n))))) (Bad (in_octets 8)))
+    go : (a : Bool) → judged_content kind (cond a (found n (length (encoded n))) none) (encoded n ++ c) ≡ as_judged (cond a (cond (good_content kind n c) (Ok (in_octets n)) (Err (record { 0 = in_octets (8 + length (encoded n)) }))) (Err (record { 0 = in_octets 8 })))
     go false = refl
     go true = rw (drop_at (encoded n) c (length (encoded n)) refl) (pick (good_content kind n c))
 
@@ -60,7 +60,7 @@ module _ (p : List ℕ) (n : ℕ) (c : List ℕ) (eight : length p ≡ 8) (small
       let d : get_or (drop 7 t) 0 0 ≡ get_or p 7 0 = get_or-drop 7 t 0 0 ∙ laid_kind in
       rw (a, b, d, laid_rank, laid_kind, laid_rest, front_form n c small, data_laid (kind_of (get_or p 7 0)) n c)
 
-as_judged_cases : (a b : Bool) (h : Head) → cond a (cond b (as_judged h) (bad 7)) (bad 0) ≡ as_judged (cond a (cond b h (Bad (in_octets 7))) (Bad (in_octets 0)))
+as_judged_cases : (a b : Bool) (h : Result Octets BadItem) → cond a (cond b (as_judged h) (bad 7)) (bad 0) ≡ as_judged (cond a (cond b h (Err (record { 0 = in_octets 7 }))) (Err (record { 0 = in_octets 0 })))
 as_judged_cases false b h = refl
 as_judged_cases true false h = refl
 as_judged_cases true true h = refl
@@ -129,12 +129,12 @@ module _ (k : ℕ) (hs ds : List ℕ) (ten : 10 ≤ length hs) (small : head_len
     pub length_next : length (body_of (suc k) hs ds) ≡ 8 + length (encoded (head_length hs)) + head_length hs + length (body_of k (drop 10 hs) (drop (head_length hs) ds))
     length_next = rw (whole, length-append, front_long)
 
-passed : (b : Bool) (h : Head) (o n : ℕ) → cond b h (Bad (in_octets o)) ≡ Good (in_octets n) → (b ≡ true) × (h ≡ Good (in_octets n))
+passed : (b : Bool) (h : Result Octets BadItem) (o n : ℕ) → cond b h (Err (record { 0 = in_octets o })) ≡ Ok (in_octets n) → (b ≡ true) × (h ≡ Ok (in_octets n))
 passed true h o n e = (refl, e)
 passed false h o n e = let z : ◌≡◌ {A = ℕ} 0 1 = cc in let y : ⊥ = omega arith in absurd y
 
 -- a good head states its length, which the data has
-pub head_good : (least : ℕ) (hs ds : List ℕ) (n : ℕ) → head_judged least hs ds ≡ Good (in_octets n) → (n ≡ head_length hs) × (head_length hs ≤ length ds)
+pub head_good : (least : ℕ) (hs ds : List ℕ) (n : ℕ) → head_judged least hs ds ≡ Ok (in_octets n) → (n ≡ head_length hs) × (head_length hs ≤ length ds)
 unfolding head_judged data_judged good_content
 head_good least hs ds n e =
     let kind : Kind = kind_of (get_or hs 7 0) in
@@ -143,7 +143,7 @@ head_good least hs ds n e =
     let c = passed (leb (head_length hs) (length_limit kind)) _ 8 n b.1 in
     let d = passed (good_content kind (head_length hs) ds) _ (8 + length (encoded (head_length hs))) n c.1 in
     let f = (and-eq-true_iff (leb (head_length hs) (length ds)) (fits_kind kind (take (head_length hs) ds))).0 d.0 in
-    let g : Good (in_octets (head_length hs)) ≡ Good (in_octets n) = d.1 in
+    let g : Ok (in_octets (head_length hs)) ≡ Ok (in_octets n) = d.1 in
     let k : in_octets (head_length hs) ≡ in_octets n = cc in
     let m : head_length hs ≡ n = ap (λ (o : Octets). o.0) k in
     (sym m, leb-true (head_length hs) (length ds) f.0)

@@ -9,6 +9,7 @@ use lib.Dec.{lit<}
 use Rattle.octets.specs.Splice.{spliced, fronted}
 use Rattle.octets.proofs.Splice.{spliced_front, spliced_next, spliced_after, length-fronted}
 use Rattle.octets.proofs.Below.{Below-drop}
+use Rattle.numbers.specs.declared.Octets.{Octets}
 use Rattle.numbers.specs.Counts.{in_octets}
 use Rattle.numbers.specs.Answer.{given}
 use Rattle.number.specs.Groups.{encoded, with_number_at}
@@ -19,8 +20,8 @@ use Rattle.swap.specs.Items.{good, judged}
 use Rattle.swap.specs.Reading.{FileListing, faulty, listed, preceded, read_records, verdict_of}
 use Rattle.swap.proofs.Tally.{records_bad, records_good}
 use Rattle.swap.proofs.Verdicts.{not_listed, accepted}
-use Rattle.swap_write.specs.declared.judge.Head.{Head}
-use Rattle.swap_write.specs.declared.judge.Head.TheVariants.{Good, Bad}
+use Rattle.swap_write.specs.declared.judge.BadItem.{BadItem}
+use Rattle.std.specs.Prelude.{Result, Ok, Err}
 use Rattle.swap_write.specs.Heads.{head_length, front_octets, body_of, file_of}
 use Rattle.swap_write.specs.Heading.{head_judged}
 use Rattle.swap_write.proofs.Body.{as_judged, body_judged, body_next, length_next, head_good, whole, front_long}
@@ -51,10 +52,10 @@ listed_fits (suc k) least at hs ds rs b h e = go (head_judged least hs ds) refl 
     B : List ℕ
     B = body_of (suc k) hs ds
 
-    go : (j : Head) → head_judged least hs ds ≡ j → ((least at : ℕ) (hs ds : List ℕ) (rs : List Record) → ((i : ℕ) → get_or hs i 0 < 256) → k * 10 ≤ length hs → read_records k least at (body_of k hs ds) ≡ listed rs → Fits k hs ds) → (head_length hs ≤ length ds) × Fits k (drop 10 hs) (drop (head_length hs) ds)
-    go (Bad o) q ih =
-        absurd (not_listed (at + o.0) rs (sym (records_bad k least at B o.0 (body_judged k hs ds (omega arith) small least ∙ ap as_judged q)) ∙ e))
-    go (Good stated) q ih =
+    go : (j : Result Octets BadItem) → head_judged least hs ds ≡ j → ((least at : ℕ) (hs ds : List ℕ) (rs : List Record) → ((i : ℕ) → get_or hs i 0 < 256) → k * 10 ≤ length hs → read_records k least at (body_of k hs ds) ≡ listed rs → Fits k hs ds) → (head_length hs ≤ length ds) × Fits k (drop 10 hs) (drop (head_length hs) ds)
+    go (Err o) q ih =
+        absurd (not_listed (at + o.0.0) rs (sym (records_bad k least at B o.0.0 (body_judged k hs ds (omega arith) small least ∙ ap as_judged q)) ∙ e))
+    go (Ok stated) q ih =
         let n = stated.0 in
         let g = head_good least hs ds n q in
         let j : judged least B ≡ good (length (encoded n)) n = body_judged k hs ds (omega arith) small least ∙ ap as_judged q in
@@ -100,20 +101,20 @@ record_laid m hs c at from ten e h =
     let f : from ≡ at + length (take 8 hs ++ E) = omega arith in
     rw (octets_spliced (spliced m at (take 8 hs)) (at + 8), a, f) (spliced_after m at (take 8 hs ++ E) c (omega arith))
 
--- where the loop stands: p is laid
-pub record Laying (hs ds m p b : List ℕ) (at left head from : ℕ) : Type 0 where
+-- where the loop stands: of the file p is laid, and these heads and data are left
+pub record Laying (file hs ds m p b : List ℕ) (at left : ℕ) : Type 0 where
+  pub octets : (i : ℕ) → get_or hs i 0 < 256
   pub front : length p ≡ at
-  pub file : file_of hs ds ≡ p ++ body_of left (drop head hs) (drop from ds)
-  pub heads : head + left * 10 ≤ length hs
-  pub data_left : from ≤ length ds
-  pub fits : Fits left (drop head hs) (drop from ds)
-  pub room : length (file_of hs ds) ≤ length m
+  pub whole_file : file ≡ p ++ body_of left hs ds
+  pub heads : left * 10 ≤ length hs
+  pub fits : Fits left hs ds
+  pub room : length file ≤ length m
   pub laid : b ≡ fronted p m
 
 -- the buffer keeps its length
-pub laying_long : (hs ds m p b : List ℕ) (at left head from : ℕ) → Laying hs ds m p b at left head from → length b ≡ length m
-laying_long hs ds m p b at left head from j =
-    rw j.laid (length-fronted p m (omega (arith, j.room, ap length j.file, length-append p (body_of left (drop head hs) (drop from ds)))))
+pub laying_long : (file hs ds m p b : List ℕ) (at left : ℕ) → Laying file hs ds m p b at left → length b ≡ length m
+laying_long file hs ds m p b at left j =
+    rw j.laid (length-fronted p m (omega (arith, j.room, ap length j.whole_file, length-append p (body_of left hs ds))))
 
 -- a front laid over a shorter one
 fronted_over : (p q m : List ℕ) → length p ≤ length q → fronted q (fronted p m) ≡ fronted q m
@@ -137,16 +138,16 @@ module _ (hs ds m : List ℕ) (h : length (file_of hs ds) ≤ length m) where
 
   -- b is the buffer with the count
   module _ (b : List ℕ) (is : b ≡ with_number_at m (in_octets 0) (length hs / 10)) where
-    pub laying_start : (c : RecordCount) → ((i : ℕ) → get_or hs i 0 < 256) → verdict_of (file_of hs ds) ≡ given c → Laying hs ds b (encoded (length hs / 10)) b (length (encoded (length hs / 10))) (length hs / 10) 0 0
+    pub laying_start : (c : RecordCount) → ((i : ℕ) → get_or hs i 0 < 256) → verdict_of (file_of hs ds) ≡ given c → Laying (file_of hs ds) hs ds b (encoded (length hs / 10)) b (length (encoded (length hs / 10))) (length hs / 10)
     unfolding file_of
     laying_start c o e =
         let n : ℕ = length hs / 10 in
         let f : b ≡ fronted (encoded n) m = is ∙ counted in
         record {
+          octets = o;
           front = refl;
-          file = refl;
+          whole_file = refl;
           heads = omega arith;
-          data_left = omega arith;
           fits = accepted_fits hs ds c e o;
           room = rw f (omega (arith, h, count_first, length-fronted (encoded n) m (omega (arith, h, count_first))));
           laid = f ∙ sym (rw f (fronted_over (encoded n) (encoded n) m (omega arith)));
@@ -156,64 +157,62 @@ module _ (hs ds m : List ℕ) (h : length (file_of hs ds) ≤ length m) where
     Laying-whole = rw (is ∙ counted) (fronted_over (encoded (length hs / 10)) (file_of hs ds) m count_first)
 
 -- one record more
-module _ (hs ds m p b : List ℕ) (octets : (i : ℕ) → get_or hs i 0 < 256) (at left head from : ℕ) (j : Laying hs ds m p b at (suc left) head from) where
-  ten : 10 ≤ length (drop head hs)
-  ten = omega (arith, j.heads, length-drop head hs)
+module _ (file hs ds m p b : List ℕ) (at left : ℕ) (j : Laying file hs ds m p b at (suc left)) where
+  ten : 10 ≤ length hs
+  ten = omega (arith, j.heads)
 
-  small : head_length (drop head hs) < 2 ^ 32
-  small = omega (arith, length_small (drop head hs) (Below-drop 256 (lit< tt) head hs octets))
+  small : head_length hs < 2 ^ 32
+  small = omega (arith, length_small hs j.octets)
 
-  fits_here : head_length (drop head hs) ≤ length (drop from ds)
+  fits_here : head_length hs ≤ length ds
   unfolding Fits
   fits_here = j.fits.0
 
-  long_here : at + 8 + length (encoded (head_length (drop head hs))) + head_length (drop head hs) ≤ length m
+  long_here : at + 8 + length (encoded (head_length hs)) + head_length hs ≤ length m
   long_here =
-      omega (arith, j.room, ap length j.file, length-append p (body_of (suc left) (drop head hs) (drop from ds)), j.front, length_next left (drop head hs) (drop from ds) ten small fits_here)
+      omega (arith, j.room, ap length j.whole_file, length-append p (body_of (suc left) hs ds), j.front, length_next left hs ds ten small fits_here)
 
-  next_here : let n = head_length (drop head hs) in let r = front_octets (drop head hs) ++ take n (drop from ds) in Laying hs ds m (p ++ r) (spliced b at r) (at + (8 + length (encoded n) + n)) left (head + 10) (from + n)
+  next_here : let n = head_length hs in let r = front_octets hs ++ take n ds in Laying file (drop 10 hs) (drop n ds) m (p ++ r) (spliced b at r) (at + (8 + length (encoded n) + n)) left
   unfolding Fits front_octets
   next_here =
-      let n : ℕ = head_length (drop head hs) in
-      let D : List ℕ = drop from ds in
-      let r : List ℕ = (take 8 (drop head hs) ++ encoded n) ++ take n D in
-      let long : length r ≡ 8 + length (encoded n) + n = front_long left (drop head hs) D ten small fits_here in
+      let n : ℕ = head_length hs in
+      let r : List ℕ = (take 8 hs ++ encoded n) ++ take n ds in
+      let long : length r ≡ 8 + length (encoded n) + n = front_long left hs ds ten small fits_here in
       record {
+        octets = Below-drop 256 (lit< tt) 10 hs j.octets;
         front = omega (arith, length-append p r, j.front, long);
-        file =
-            j.file
-            ∙ ap (λ (t : List ℕ). p ++ t) (whole left (drop head hs) D ten small fits_here)
-            ∙ sym (append_assoc p r (body_of left (drop 10 (drop head hs)) (drop n D)))
-            ∙ rw (drop-drop 10 head hs, drop-drop n from ds);
-        heads = omega (arith, j.heads);
-        data_left = omega (arith, fits_here, length-drop from ds, j.data_left);
-        fits = rw (← drop-drop 10 head hs, ← drop-drop n from ds) j.fits.1;
+        whole_file =
+            j.whole_file
+            ∙ ap (λ (t : List ℕ). p ++ t) (whole left hs ds ten small fits_here)
+            ∙ sym (append_assoc p r (body_of left (drop 10 hs) (drop n ds)));
+        heads = omega (arith, j.heads, length-drop 10 hs);
+        fits = j.fits.1;
         room = j.room;
         laid = rw j.laid (spliced_next p m r at j.front (omega (arith, long, long_here)));
       }
 
 -- the same at the numbers of the loop
-module _ (hs ds m p b : List ℕ) (octets : (i : ℕ) → get_or hs i 0 < 256) (at : ℕ) where
-  pub laying_fits : (left head from : ℕ) → Laying hs ds m p b at left head from → 0 < left → head_length (drop head hs) ≤ length ds - from
-  laying_fits zero head from j h = let z : ⊥ = omega arith in absurd z
-  laying_fits (suc left) head from j h = omega (arith, fits_here hs ds m p b octets at left head from j, length-drop from ds)
+module _ (file hs ds m p b : List ℕ) (at : ℕ) where
+  pub laying_fits : (left : ℕ) → Laying file hs ds m p b at left → 0 < left → head_length hs ≤ length ds
+  laying_fits zero j h = let z : ⊥ = omega arith in absurd z
+  laying_fits (suc left) j h = fits_here file hs ds m p b at left j
 
-  pub laying_room : (left head from : ℕ) → Laying hs ds m p b at left head from → 0 < left → at + 8 + length (encoded (head_length (drop head hs))) + head_length (drop head hs) ≤ length b
-  laying_room zero head from j h = let z : ⊥ = omega arith in absurd z
-  laying_room (suc left) head from j h =
-      let l : at + 8 + length (encoded (head_length (drop head hs))) + head_length (drop head hs) ≤ length m = long_here hs ds m p b octets at left head from j in
+  pub laying_room : (left : ℕ) → Laying file hs ds m p b at left → 0 < left → at + 8 + length (encoded (head_length hs)) + head_length hs ≤ length b
+  laying_room zero j h = let z : ⊥ = omega arith in absurd z
+  laying_room (suc left) j h =
+      let l : at + 8 + length (encoded (head_length hs)) + head_length hs ≤ length m = long_here file hs ds m p b at left j in
       rw j.laid (omega (arith, length-fronted p m (omega (arith, j.front, l))))
 
-  pub laying_next : (left head from : ℕ) → Laying hs ds m p b at left head from → 0 < left → let n = head_length (drop head hs) in let r = front_octets (drop head hs) ++ take n (drop from ds) in Laying hs ds m (p ++ r) (spliced b at r) (at + (8 + length (encoded n) + n)) (left - 1) (head + 10) (from + n)
-  laying_next zero head from j h = let z : ⊥ = omega arith in absurd z
-  laying_next (suc left) head from j h =
+  pub laying_next : (left : ℕ) → Laying file hs ds m p b at left → 0 < left → let n = head_length hs in let r = front_octets hs ++ take n ds in Laying file (drop 10 hs) (drop n ds) m (p ++ r) (spliced b at r) (at + (8 + length (encoded n) + n)) (left - 1)
+  laying_next zero j h = let z : ⊥ = omega arith in absurd z
+  laying_next (suc left) j h =
       let l : suc left - 1 ≡ left = omega arith in
-      rw l (next_here hs ds m p b octets at left head from j)
+      rw l (next_here file hs ds m p b at left j)
 
 -- the whole file
-pub laying_done : (hs ds m p b : List ℕ) (at head from : ℕ) → Laying hs ds m p b at 0 head from → b ≡ fronted (file_of hs ds) m
+pub laying_done : (file hs ds m p b : List ℕ) (at : ℕ) → Laying file hs ds m p b at 0 → b ≡ fronted file m
 unfolding Fits body_of
-laying_done hs ds m p b at head from j =
-    let e : drop head hs ≡ [] = no_elements (drop head hs) j.fits.0 in
-    let f : drop from ds ≡ [] = no_elements (drop from ds) j.fits.1 in
-    j.laid ∙ ap (λ (t : List ℕ). fronted t m) (sym (j.file ∙ rw (e, f, append-nil)))
+laying_done file hs ds m p b at j =
+    let e : hs ≡ [] = no_elements hs j.fits.0 in
+    let f : ds ≡ [] = no_elements ds j.fits.1 in
+    j.laid ∙ ap (λ (t : List ℕ). fronted t m) (sym (j.whole_file ∙ rw (e, f, append-nil)))

@@ -6,3 +6,4 @@ pub mod Laid
 mod Outcomes
 pub mod Records
 mod Sized
+mod Tests

@@ -1,5 +1,5 @@
 -- What the writer answers and leaves in the buffer (01, Swap file): the reader's verdict on the would-be file, then 17.
-use Rattle.std.specs.Prelude.{ℕ, ◌+◌, cond, List, leb, ltb, length}
+use Rattle.std.specs.Prelude.{Option, None, Some, Result, Ok, Err, ℕ, ◌+◌, cond, List, leb, ltb, length}
 use Rattle.numbers.specs.declared.Octets.{Octets}
 use Rattle.numbers.specs.Counts.{in_octets}
 use Rattle.numbers.specs.Answer.{Answer, given, refused, refused_at}
@@ -8,17 +8,15 @@ use Rattle.numbers.specs.Table.{faulty_file, wrong_length}
 use Rattle.swap.specs.declared.file.RecordCount.{RecordCount}
 use Rattle.swap.specs.Record.{file_limit}
 use Rattle.swap.specs.Reading.{verdict_of}
-use Rattle.swap_write.specs.declared.Written.{Written}
-use Rattle.swap_write.specs.declared.Written.TheVariants.{Whole, Fault, Short}
-use Rattle.swap_write.specs.declared.size.Size.{Size}
-use Rattle.swap_write.specs.declared.size.Size.TheVariants as size
+use Rattle.swap_write.specs.declared.Refusal.{Refusal}
+use Rattle.swap_write.specs.declared.Refusal.TheVariants.{Fault, Short}
 use Rattle.swap_write.specs.Heads.{file_of}
 
 -- the number and values of each case: the length of the file written, 18 with an offset, or 17
-abbrev pub answer_of_written : Written → Answer Octets
-answer_of_written (Whole length) = given length
-answer_of_written (Fault offset) = refused_at faulty_file offset
-answer_of_written Short = refused wrong_length
+abbrev pub answer_of_written : Result Octets Refusal → Answer Octets
+answer_of_written (Ok length) = given length
+answer_of_written (Err (Fault fault)) = refused_at faulty_file fault.0
+answer_of_written (Err Short) = refused wrong_length
 
 -- the answer, and the buffer after the call
 pub record Outcome : Type 0 where
@@ -42,9 +40,9 @@ unfoldable pub writing : List ℕ → List ℕ → List ℕ → Outcome
 writing heads contents buffer = judged_writing (verdict_of (file_of heads contents)) (file_of heads contents) buffer
 
 -- the length of a file, if it is within the limit
-unfoldable pub size_of : List ℕ → Size
-size_of file = cond (ltb file_limit (length file)) size.Long (size.Within (in_octets (length file)))
+unfoldable pub size_of : List ℕ → Option Octets
+size_of file = cond (ltb file_limit (length file)) None (Some (in_octets (length file)))
 
 -- so many octets and more
-unfoldable pub size_after : ℕ → ℕ → Size
-size_after sum more = cond (ltb file_limit (sum + more)) size.Long (size.Within (in_octets (sum + more)))
+unfoldable pub size_after : ℕ → ℕ → Option Octets
+size_after sum more = cond (ltb file_limit (sum + more)) None (Some (in_octets (sum + more)))

@@ -10,91 +10,73 @@ use crate::size::{HEAD_SIZE, head_length, width_of};
 use numbers::Octets;
 use swap::file::COUNT_LIMIT;
 use swap::item::rank;
-use swap::kind::{Kind, fits_kind, kind_of, known, length_limit};
-use swap::{RecordCount, Verdict};
+use swap::kind::{Kind, fits_kind, length_limit};
+use swap::{Fault, RecordCount};
 
-// What a head with its data makes: a record of so many octets of data, or a record whose first bad item stands so far from its start.
-#[derive(Clone, Copy)]
-pub enum Head {
-    Good(Octets),
-    Bad(Octets),
-}
+// How far from a record's start its first bad item stands.
+#[derive(Clone, Copy, Debug, PartialEq, Eq)]
+pub struct BadItem(pub Octets);
 
 // The verdict on a would-be file that is not too long.
-pub(crate) fn judge(heads: &[u8], contents: &[u8]) -> Verdict
+pub(crate) fn judge(heads: &[u8], contents: &[u8]) -> Result<RecordCount, Fault>
     requires { length (file_of heads.now contents.now) ≤ file_limit }
     ensures { answer_of_verdict result ≡ verdict_of (file_of heads.now contents.now) }
 {
     let count = heads.len() / HEAD_SIZE;
     if COUNT_LIMIT < count {
-        return Verdict::Fault(Octets(0));
+        return Err(Fault(Octets(0)));
     }
     judge_heads(heads, contents, count)
 }
 
 // So many heads with their data, and nothing left over.
-fn judge_heads(heads: &[u8], contents: &[u8], count: usize) -> Verdict
+fn judge_heads(heads: &[u8], contents: &[u8], count: usize) -> Result<RecordCount, Fault>
     requires { (count * head_size ≤ length heads.now) × (length (encoded count) + length (body_of count heads.now contents.now) ≤ file_limit) }
     ensures { answer_of_verdict result ≡ answer_of_listing (read_records count 0 (length (encoded count)) (body_of count heads.now contents.now)) }
 {
+    let mut heads_left = heads;
+    let mut data_left = contents;
     let mut at = width_of(count);
-    let mut left = count;
-    let mut least: u64 = 0;
-    let mut head: usize = 0;
-    let mut from: usize = 0;
-    while 0 < left {
-        let judged = judge_head(&heads[head..], &contents[from..], least);
-        match judged {
-            Head::Bad(offset) => {
-                return Verdict::Fault(Octets(at + offset.0));
-            }
-            Head::Good(stated) => {
-                let length = stated.0;
-                least = rank(&heads[head..]) + 1;
-                at += 8 + width_of(length) + length;
-                head += HEAD_SIZE;
-                from += length;
-                left -= 1;
-            }
-        }
+    let mut least = 0;
+    for _judged in 0..count {
+        let length = match judge_head(heads_left, data_left, least) {
+            Ok(stated) => stated.0,
+            Err(bad) => return Err(Fault(Octets(at + bad.0.0))),
+        };
+        least = rank(heads_left) + 1;
+        at += 8 + width_of(length) + length;
+        heads_left = &heads_left[HEAD_SIZE..];
+        data_left = &data_left[length..];
     }
-    if head < heads.len() {
-        return Verdict::Fault(Octets(at));
+    if !heads_left.is_empty() || !data_left.is_empty() {
+        return Err(Fault(Octets(at)));
     }
-    if from < contents.len() {
-        return Verdict::Fault(Octets(at));
-    }
-    Verdict::Accepted(RecordCount(count))
+    Ok(RecordCount(count))
 }
 
-// The head at the front, with its data at the front of the contents.
-fn judge_head(heads: &[u8], contents: &[u8], least: u64) -> Head
+// The octets of data of the head at the front, with the data at the front of the contents.
+fn judge_head(heads: &[u8], contents: &[u8], least: u64) -> Result<Octets, BadItem>
     requires { head_size ≤ length heads.now }
     ensures { result ≡ head_judged least heads.now contents.now }
 {
     if rank(heads) < least {
-        return Head::Bad(Octets(0));
+        return Err(BadItem(Octets(0)));
     }
-    if !known(heads[7]) {
-        return Head::Bad(Octets(7));
-    }
-    judge_data(kind_of(heads[7]), head_length(heads), contents)
+    let Ok(kind) = Kind::try_from(heads[7]) else {
+        return Err(BadItem(Octets(7)));
+    };
+    judge_data(kind, head_length(heads), contents)
 }
 
 // A length and the data of a record of this kind.
-fn judge_data(kind: Kind, stated: Octets, contents: &[u8]) -> Head
+fn judge_data(kind: Kind, stated: Octets, contents: &[u8]) -> Result<Octets, BadItem>
     ensures { result ≡ data_judged kind stated.0 contents.now }
 {
-    let length = stated.0;
-    let limit = length_limit(kind);
-    if limit.0 < length {
-        return Head::Bad(Octets(8));
+    if length_limit(kind).0 < stated.0 {
+        return Err(BadItem(Octets(8)));
     }
-    if contents.len() < length {
-        return Head::Bad(Octets(8 + width_of(length)));
+    if contents.len() < stated.0 || !fits_kind(kind, &contents[..stated.0]) {
+        return Err(BadItem(Octets(8 + width_of(stated.0))));
     }
-    if !fits_kind(kind, &contents[..length]) {
-        return Head::Bad(Octets(8 + width_of(length)));
-    }
-    Head::Good(stated)
+    Ok(stated)
 }

@@ -17,20 +17,16 @@ pub(crate) fn lay(heads: &[u8], contents: &[u8], buffer: &mut [u8])
     ensures { buffer.new ≡ fronted (file_of heads.now contents.now) buffer.old }
 {
     let count = heads.len() / HEAD_SIZE;
-    number::write(buffer, Octets(0), count as u32);
+    let _ = number::write(buffer, Octets(0), count as u32);
+    let mut heads_left = heads;
+    let mut data_left = contents;
     let mut at = width_of(count);
-    let mut left = count;
-    let mut head: usize = 0;
-    let mut from: usize = 0;
-    while 0 < left {
-        let stated = head_length(&heads[head..]);
-        let length = stated.0;
-        let end = from + length;
-        lay_record(&heads[head..], &contents[from..end], buffer, at);
+    for _laid in 0..count {
+        let length = head_length(heads_left).0;
+        lay_record(heads_left, &data_left[..length], buffer, at);
         at += 8 + width_of(length) + length;
-        head += HEAD_SIZE;
-        from = end;
-        left -= 1;
+        heads_left = &heads_left[HEAD_SIZE..];
+        data_left = &data_left[length..];
     }
 }
 
@@ -39,10 +35,8 @@ fn lay_record(heads: &[u8], content: &[u8], buffer: &mut [u8], at: usize)
     requires { (head_size ≤ length heads.now) × (at + 8 + length (encoded (head_length heads.now)) + length content.now ≤ length buffer.old) }
     ensures { buffer.new ≡ spliced buffer.old at (front_octets heads.now ++ content.now) }
 {
-    let stated = head_length(heads);
-    let length = stated.0;
-    let from = at + 8 + width_of(length);
+    let length = head_length(heads).0;
     octets::put(buffer, at, &heads[..8]);
-    number::write(buffer, Octets(at + 8), length as u32);
-    octets::put(buffer, from, content);
+    let _ = number::write(buffer, Octets(at + 8), length as u32);
+    octets::put(buffer, at + 8 + width_of(length), content);
 }

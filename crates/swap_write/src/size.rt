@@ -5,76 +5,60 @@ ghost use Rattle.swap_write.specs.Heads.{head_length, file_of};
 ghost use Rattle.swap_write.specs.Writing.{size_of, size_after};
 
 use numbers::Octets;
-use octets::wide;
+use octets::octet;
 use swap::file::FILE_LIMIT;
 
 // The octets of a head.
 pub const HEAD_SIZE: usize = 10;
 
-// The length of a file within the limit, or that it is too long.
-#[derive(Clone, Copy)]
-pub enum Size {
-    Within(Octets),
-    Long,
-}
-
 // The length that the head at the front states; octets that are not there count as 0.
+#[tactic(auto, unfolding(crate::specs::Heads::head_length))]
 pub fn head_length(heads: &[u8]) -> Octets
     ensures { result.0 ≡ head_length heads.now }
 {
-    let low = wide(octets::octet(heads, 8));
-    let high = wide(octets::octet(heads, 9));
-    Octets((low + 256 * high) as usize)
+    Octets(usize::from(u16::from_le_bytes([octet(heads, 8), octet(heads, 9)])))
 }
 
 // How many octets a number takes: five from 2^28 on, whatever it is.
 pub(crate) fn width_of(n: usize) -> usize
     ensures { result ≡ length (encoded n) }
 {
-    if n < 268435456 {
-        let width = number::width(n as u32);
-        return width.0;
+    match u32::try_from(n) {
+        Ok(n) => number::width(n).0,
+        Err(_) => 5,
     }
-    5
 }
 
-// Sums early, so that no sum grows past the limit and one record.
-pub(crate) fn file_size(heads: &[u8], contents: &[u8]) -> Size
+// The length of a file within the limit. Sums early, so that no sum grows past the limit and one record.
+pub(crate) fn file_size(heads: &[u8], contents: &[u8]) -> Option<Octets>
     ensures { result ≡ size_of (file_of heads.now contents.now) }
 {
     let count = heads.len() / HEAD_SIZE;
+    let mut heads_left = heads;
+    let mut data_left = contents;
     let mut sum = width_of(count);
-    let mut left = count;
-    let mut head: usize = 0;
-    let mut from: usize = 0;
-    while 0 < left {
+    for _summed in 0..count {
         if FILE_LIMIT < sum {
-            return Size::Long;
+            return None;
         }
-        let stated = head_length(&heads[head..]);
-        let length = stated.0;
-        let width = width_of(length);
-        sum += 8 + width;
-        if contents.len() - from < length {
-            return after(sum, contents.len() - from);
+        let length = head_length(heads_left).0;
+        sum += 8 + width_of(length);
+        if data_left.len() < length {
+            return after(sum, data_left.len());
         }
         sum += length;
-        head += HEAD_SIZE;
-        from += length;
-        left -= 1;
+        heads_left = &heads_left[HEAD_SIZE..];
+        data_left = &data_left[length..];
     }
-    after(sum, heads.len() - head + (contents.len() - from))
+    after(sum, heads_left.len() + data_left.len())
 }
 
 // So many octets and more.
-fn after(sum: usize, more: usize) -> Size
+fn after(sum: usize, more: usize) -> Option<Octets>
     ensures { result ≡ size_after sum more }
 {
-    if FILE_LIMIT < sum {
-        return Size::Long;
+    if FILE_LIMIT < sum || FILE_LIMIT - sum < more {
+        return None;
     }
-    if FILE_LIMIT - sum < more {
-        return Size::Long;
-    }
-    Size::Within(Octets(sum + more))
+    Some(Octets(sum + more))
 }

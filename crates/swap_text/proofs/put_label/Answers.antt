@@ -5,12 +5,9 @@ use Rattle.swap_text.proofs.Parts.{label_octets, label_counts}
 use Rattle.swap_text.proofs.put_label.Goals as goal
 
 pub returns-in_default : goal.returns-in_default
-returns-in_default c = let m = c in
-    label_octets _ _ _ _ _ m.put_number-next.ensures _ _ (sym m.measure-measured.ensures ∙ ap answer_of_text c.in_default.is)
+returns-in_default c =
+    label_octets _ _ _ _ _ c.put_number-next.ensures _ _ (sym c.measure.ensures ∙ ap answer_of_text c.in_default.is)
 
 pub returns : goal.returns
-returns c = let n = c in
-    let d = n in
-    let m = d in
-    let s = m in
-    label_counts _ _ _ _ _ m.put_number-next.ensures _ _ _ s.requires (sym m.measure-measured.ensures ∙ ap answer_of_text d.in-WellFormed.is) n.put_number.ensures
+returns c =
+    label_counts _ _ _ _ _ c.put_number-next.ensures _ _ _ c.requires (sym c.measure.ensures ∙ ap answer_of_text c.in-Ok.is) c.put_number.ensures

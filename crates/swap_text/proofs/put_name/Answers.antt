@@ -11,8 +11,6 @@ use Rattle.swap_text.proofs.put_name.Goals as goal
 
 pub returns : goal.returns
 unfolding name_text
-returns c = let n = c in
-    let o = n in
-    let s = o in
-    let six : length s.args.ads ≡ 6 = search rules in
-    joined _ _ _ _ _ _ _ _ (omega (arith, length_hex s.args.ads, length_hex (s.args.tab ∷ []), s.requires)) o.put_hex-tab_at.ensures n.put_hex.ensures
+returns c = let a = c.args in
+    let six : length a.ads ≡ 6 = search rules in
+    joined _ _ _ _ _ _ _ _ (omega (arith, length_hex a.ads, length_hex (a.tab ∷ []), c.requires)) c.put_hex-tab_at.ensures c.put_hex.ensures

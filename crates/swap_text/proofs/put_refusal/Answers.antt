@@ -6,13 +6,12 @@ use Rattle.swap_text.proofs.Whole.{made, taken_over}
 use Rattle.swap_text.proofs.put_refusal.Goals as goal
 
 pub put_line-requires : goal.put_line-requires
-put_line-requires c = let n = c in
-    let g = made _ _ _ _ (omega (arith, text_most n.args.offset.0)) n.put_number-end.ensures in
-    omega (arith, g.0, g.2, text_most n.args.offset.0)
+put_line-requires c =
+    let g = made _ _ _ _ (omega (arith, text_most c.args.offset.0)) c.put_number-end.ensures in
+    omega (arith, g.0, g.2, text_most c.args.offset.0)
 
 pub returns : goal.returns
 unfolding refusal_line
-returns c = let p = c in
-    let n = p in
-    let g = made _ _ _ _ (omega (arith, text_most n.args.offset.0)) n.put_number-end.ensures in
-    taken_over _ _ _ _ _ _ p.put_line.ensures g.1
+returns c =
+    let g = made _ _ _ _ (omega (arith, text_most c.args.offset.0)) c.put_number-end.ensures in
+    taken_over _ _ _ _ _ _ c.put_line.ensures g.1

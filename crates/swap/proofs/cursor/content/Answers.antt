@@ -6,8 +6,5 @@ use Rattle.swap.proofs.cursor.content.Goals as goal
 pub returns-then-file-count : goal.returns-then-file-count
 returns-then-file-count c = let a = c.args in content_none a.file.now a.entry (omega arith)
 
-pub returns-then-file-count-2 : goal.returns-then-file-count-2
-returns-then-file-count-2 c = let a = c.args in content_none a.file.now a.entry (omega arith)
-
 pub returns : goal.returns
 returns c = let a = c.args in content_part a.file.now a.entry (omega arith)

@@ -4,7 +4,7 @@ use Rattle.swap.specs.Station.{next_asked}
 use Rattle.swap.proofs.station.next_asked.Given as goal
 
 abbrev pub invariant-loop-entry : goal.invariant-loop-entry
-invariant-loop-entry l = next_asked l.asked l.ads l.file l.here ≡ next_asked l.asked l.ads l.file l.initial.here
+invariant-loop-entry l = next_asked l.asked l.ads l.file l.cursor ≡ next_asked l.asked l.ads l.file l.initial.cursor
 
 abbrev pub decreases-loop-entry : goal.decreases-loop-entry
-decreases-loop-entry l = l.here.left.0
+decreases-loop-entry l = l.cursor.left.0

@@ -2,8 +2,8 @@
 use Rattle.swap_exports.proofs.Outcomes.{added_kept, added_fault}
 use Rattle.swap_exports.proofs.list.propolisk_swap_add.Goals as goal
 
-pub returns-in-Kept : goal.returns-in-Kept
-returns-in-Kept c = added_kept _ _ _ _ _ _ _ c.add_with_octet-added.ensures _ c.in-Kept.is
+pub returns-in-Ok : goal.returns-in-Ok
+returns-in-Ok c = added_kept _ _ _ _ _ _ _ c.add_with_octet.ensures _ c.in-Ok.is
 
-pub returns-in-Fault : goal.returns-in-Fault
-returns-in-Fault c = added_fault _ _ _ _ _ _ _ c.add_with_octet-added.ensures _ c.in-Fault.is
+pub returns-in-Err : goal.returns-in-Err
+returns-in-Err c = added_fault _ _ _ _ _ _ _ c.add_with_octet.ensures _ c.in-Err.is

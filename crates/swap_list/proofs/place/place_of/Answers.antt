@@ -1,9 +1,9 @@
 -- `place_of`: what was passed and the place among the heads left make up the place.
-use Prim.Native.Nat.{ℕ, ◌^◌, ◌<◌}
+use Prim.Native.Nat.{ℕ, ◌+◌, ◌-◌, ◌/◌, ◌^◌, ◌<◌}
 use mathlib.Core.Path.{◌≡◌, ap, ◌∙◌}
 use mathlib.Core.List.{List}
 use native.Mathlib.Omega.{arith}
-use lib.ListN.{get_or, take, drop}
+use lib.ListN.{length, get_or, take, drop}
 use lib.Dec.{lit<}
 use Rattle.swap.specs.Record.{rank_of}
 use Rattle.swap.proofs.Parts.{part_rest}
@@ -13,32 +13,40 @@ use Rattle.swap_write.proofs.Judged.{length_small}
 use Rattle.swap_list.proofs.Placing.{sought_start, sought_next, sought_here, sought_end}
 use Rattle.swap_list.proofs.place.place_of.Goals as goal
 
-pub loop-left-init : goal.loop-left-init
-loop-left-init c = sought_start _ _
+-- the head at an offset
+module _ (heads : List ℕ) (head : ℕ) where
+  rank_there : (r : ℕ) → r ≡ rank_of (take 7 (take (length heads - head) (drop head heads))) → r ≡ rank_of (take 7 (drop head heads))
+  rank_there r e = e ∙ ap (λ (t : List ℕ). rank_of (take 7 t)) (part_rest heads head)
+
+  length_there : (n : ℕ) → n ≡ head_length (take (length heads - head) (drop head heads)) → n ≡ head_length (drop head heads)
+  length_there n e = e ∙ ap head_length (part_rest heads head)
+
+  length_below : ((i : ℕ) → get_or heads i 0 < 256) → head_length (drop head heads) < 2 ^ 16
+  length_below octets = length_small (drop head heads) (Below-drop 256 (lit< tt) head heads octets)
+
+pub loop-passed-init : goal.loop-passed-init
+loop-passed-init c =
+    let z : length c.args.heads.now / 10 - 0 ≡ length c.args.heads.now / 10 = omega arith in
+    rw z (sought_start _ _)
 
 pub returns-then-least-rank : goal.returns-then-least-rank
-returns-then-least-rank c = let l = c.loop-left in
+returns-then-least-rank c = let l = c.loop-passed in
     let hs = c.args.heads.now in
-    let k : c.rank.result ≡ rank_of (take 7 (drop l.head hs)) = c.rank.ensures ∙ ap (λ (t : List ℕ). rank_of (take 7 t)) (part_rest hs l.head) in
-    sought_here hs _ l.head l.from l.left l.invariant c.loop-left-test.true (omega (arith, k, c.if-least-rank.true))
+    sought_here hs _ l.place.head l.place.from _ l.invariant (omega arith) (omega (arith, rank_there hs l.place.head c.rank.result c.rank.ensures, c.if-least-rank.true))
 
-pub overflow_add-from : goal.overflow_add-from
-overflow_add-from c =
-    let length_stated : let n = head_length (drop c.loop-left.head c.args.heads.now) in (c.head_length-stated.result.0 ≡ n) × (n < 2 ^ 16) = let octets : (i : ℕ) → get_or c.args.heads.now i 0 < 256 = λ i. (c.type_inv.heads i).fits in
-    (c.head_length-stated.ensures ∙ ap head_length (part_rest c.args.heads.now c.loop-left.head), length_small (drop c.loop-left.head c.args.heads.now) (Below-drop 256 (lit< tt) c.loop-left.head c.args.heads.now octets)) in
-    let l = c.loop-left in
-    omega (arith, l.invariant.small, l.invariant.heads, length_stated.0, length_stated.1, c.requires)
-
-pub loop-left-preserved : goal.loop-left-preserved
-loop-left-preserved c =
-    let length_stated : let n = head_length (drop c.loop-left.head c.args.heads.now) in (c.head_length-stated.result.0 ≡ n) × (n < 2 ^ 16) = let octets : (i : ℕ) → get_or c.args.heads.now i 0 < 256 = λ i. (c.type_inv.heads i).fits in
-    (c.head_length-stated.ensures ∙ ap head_length (part_rest c.args.heads.now c.loop-left.head), length_small (drop c.loop-left.head c.args.heads.now) (Below-drop 256 (lit< tt) c.loop-left.head c.args.heads.now octets)) in
-    let l = c.loop-left in
+pub overflow_add-place-in-loop-passed : goal.overflow_add-place-in-loop-passed
+overflow_add-place-in-loop-passed c = let l = c.loop-passed in
     let hs = c.args.heads.now in
-    let k : c.rank.result ≡ rank_of (take 7 (drop l.head hs)) = c.rank.ensures ∙ ap (λ (t : List ℕ). rank_of (take 7 t)) (part_rest hs l.head) in
-    rw length_stated.0 (sought_next hs _ l.head l.from l.left l.invariant c.loop-left-test.true (omega (arith, k, c.if-least-rank.false)) length_stated.1)
+    omega (arith, l.invariant.small, l.invariant.heads, length_there hs l.place.head c.head_length.result.0 c.head_length.ensures, length_below hs l.place.head (λ i. (c.type_inv.heads i).fits), c.requires)
+
+pub loop-passed-preserved : goal.loop-passed-preserved
+loop-passed-preserved c = let l = c.loop-passed in
+    let hs = c.args.heads.now in
+    let left : length hs / 10 - (l._passed + 1) ≡ length hs / 10 - l._passed - 1 = omega arith in
+    rw (left, length_there hs l.place.head c.head_length.result.0 c.head_length.ensures)
+    (sought_next hs _ l.place.head l.place.from _ l.invariant (omega arith) (omega (arith, rank_there hs l.place.head c.rank.result c.rank.ensures, c.if-least-rank.false)) (length_below hs l.place.head (λ i. (c.type_inv.heads i).fits)))
 
 pub returns : goal.returns
-returns c = let l = c.loop-left in
-    let z : l.left ≡ 0 = omega (arith, c.loop-left-test.false) in
-    sought_end _ _ l.head l.from (rw z at l.invariant)
+returns c = let l = c.loop-passed in
+    let z : length c.args.heads.now / 10 - l._passed ≡ 0 = omega arith in
+    sought_end _ _ l.place.head l.place.from (rw z at l.invariant)

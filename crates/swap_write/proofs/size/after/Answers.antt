@@ -10,10 +10,6 @@ pub returns-then-sum-gt-FILE_LIMIT : goal.returns-then-sum-gt-FILE_LIMIT
 unfolding size_after
 returns-then-sum-gt-FILE_LIMIT c = rw (lt-ltb file_limit (c.args.sum + c.args.more) (omega arith))
 
-pub returns-then-sum-more : goal.returns-then-sum-more
-unfolding size_after
-returns-then-sum-more c = rw (lt-ltb file_limit (c.args.sum + c.args.more) (omega arith))
-
 pub returns : goal.returns
 unfolding size_after
 returns c = rw (le-ltb file_limit (c.args.sum + c.args.more) (omega arith))

@@ -1,9 +1,9 @@
 -- `file_size`: what is summed and the octets of the heads left make up the whole.
+use Prim.Native.Nat.{◌-◌}
+use lib.ListN.{length}
+use Rattle.swap_write.specs.Heads.{file_of}
 use Rattle.swap_write.proofs.Sized.{Summed}
 use Rattle.swap_write.proofs.size.file_size.Given as goal
 
-abbrev pub invariant-loop-left : goal.invariant-loop-left
-invariant-loop-left l = Summed l.heads l.contents l.sum l.left l.head l.from
-
-abbrev pub decreases-loop-left : goal.decreases-loop-left
-decreases-loop-left l = l.left
+abbrev pub invariant-loop-summed : goal.invariant-loop-summed
+invariant-loop-summed l = Summed (length l.initial.heads_left) (length l.initial.data_left) (file_of l.initial.heads_left l.initial.data_left) l.heads_left l.data_left l.sum (l.count - l._summed)

@@ -1,0 +1,9 @@
+-- An octet taken for a kind.
+use Rattle.std.specs.Prelude.{ℕ, Result, Ok, Err, cond}
+use Rattle.swap.specs.declared.kind.Kind.{Kind}
+use Rattle.swap.specs.declared.kind.UnknownKind.{UnknownKind}
+use Rattle.swap.specs.Record.{known_kind, kind_of}
+
+-- the kind of a known octet; any other stands for none
+unfoldable pub kind_read : ℕ → Result Kind UnknownKind
+kind_read octet = cond (known_kind octet) (Ok (kind_of octet)) (Err (record {}))
