@@ -1,26 +1,23 @@
 -- What an admitted request has passed, and what it sends of what was lent.
-use Prim.Native.Nat.{ℕ, ◌≤◌}
+use Prim.Native.Nat.{ℕ, ◌≤◌, ◌<◌}
 use mathlib.Core.Path.{◌≡◌, refl}
-use mathlib.Core.Bool.{Bool, true, false, cond, ◌&&◌}
+use mathlib.Core.Bool.{Bool, true, false, cond, ◌&&◌, and-false}
 use mathlib.Core.List.{List}
 use native.Mathlib.Omega.{arith}
 use lib.Dec.{eqb, leb}
-use lib.ListN.{length, replicate}
-use borrow.Author.Tests.{eqb-true, leb-true, le-leb}
+use lib.ListN.{length}
+use borrow.Author.Tests.{eqb-true, leb-true, le-leb, lt-leb}
 use Rattle.numbers.specs.Table.{none, wrong_address, too_long, broken_rule, busy, weak_key}
 use Rattle.octets.specs.Between.{between}
-use Rattle.octets.specs.Splice.{spliced}
 use Rattle.octets.proofs.Impossible.{impossible}
-use Rattle.octets.proofs.Splice.{spliced_whole}
 use Rattle.frame.specs.Layout.{layout_of, within}
 use Rattle.wake.specs.declared.Request.{Request}
 use Rattle.wake.specs.declared.Request.TheVariants.{Enq, Trf, Rec, Trb, Ib}
 use Rattle.tool.specs.declared.Tool.{Tool}
-use Rattle.tool.specs.declared.requests.Arguments.{Arguments}
 use Rattle.frame.specs.Sizes.{address_width, number_width, most_programmed, most_transferred, longest_frame}
 use Rattle.tool.specs.Parts.{idle}
 use Rattle.tool.specs.Soundness.{sound}
-use Rattle.tool.specs.Requests.{Asking, zero_number, asking_of, sent_command, addressable, weakly_keyed, limit_of, lent_rightly, admission}
+use Rattle.tool.specs.Requests.{Asking, sent_command, addressable, weakly_keyed, limit_of, lent_rightly, admission, after_asking}
 
 -- what is lent for a request is as long as it must be
 pub record Lent (ads key na1 : List ℕ) (buffer_length : ℕ) : Type 0 where
@@ -41,6 +38,18 @@ lent ads key na1 buffer_length =
     go true true false d ea eb ec ed e = impossible (cc)
     go true false c d ea eb ec ed e = impossible (cc)
     go false b c d ea eb ec ed e = impossible (cc)
+
+-- a buffer that is too short is not lent rightly, and how long a longer one is does not matter
+module _ (ads key na1 : List ℕ) (buffer_length : ℕ) where
+  pub lent_short : buffer_length < longest_frame → lent_rightly ads key na1 buffer_length ≡ false
+  lent_short h = rw (lt-leb _ _ h, and-false (eqb (length na1) number_width), and-false (eqb (length key) number_width), and-false (eqb (length ads) address_width))
+
+  pub lent_long : longest_frame ≤ buffer_length → lent_rightly ads key na1 buffer_length ≡ lent_rightly ads key na1 longest_frame
+  lent_long h = rw (le-leb _ _ h)
+
+pub asked_long : (t : Tool) (q : Asking) (buffer_length : ℕ) → longest_frame ≤ buffer_length → after_asking t q longest_frame ≡ after_asking t q buffer_length
+unfolding after_asking
+asked_long t q buffer_length h = rw (lent_long q.ads q.key q.na1 buffer_length h)
 
 pub record Admits (t : Tool) (q : Asking) : Type 0 where
   pub sound : sound t ≡ true
@@ -72,10 +81,3 @@ limit_within Trf n h = rw (le-leb 0 n (omega arith), le-leb n most_transferred h
 limit_within Rec n h = rw (le-leb 0 n (omega arith), le-leb n most_programmed h)
 limit_within Trb n h = rw (le-leb 0 n (omega arith), le-leb n most_transferred h)
 limit_within Ib n h = rw (le-leb 0 n (omega arith), le-leb n 0 h)
-
--- the arguments are what was lent
-pub arguments_lent : (r : Request) (ads : List ℕ) (adp tab : ℕ) (d key na1 : List ℕ) (buffer_length : ℕ) → Lent ads key na1 buffer_length → (a : Arguments)
-    → a ≡ record { request = r; ads = spliced (replicate address_width 0) 0 ads; adp = adp; tab = tab; key = spliced zero_number 0 key; na1 = spliced zero_number 0 na1 }
-    → asking_of a d ≡ record { request = r; ads = ads; adp = adp; tab = tab; content = d; key = key; na1 = na1 }
-arguments_lent r ads adp tab d key na1 buffer_length l a e =
-    rw (e, spliced_whole (replicate address_width 0) ads l.address, spliced_whole zero_number key l.secret, spliced_whole zero_number na1 l.first)

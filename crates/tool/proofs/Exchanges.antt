@@ -3,7 +3,6 @@
 use Prim.Native.Nat.{ℕ}
 use mathlib.Core.Path.{◌≡◌, refl}
 use mathlib.Core.List.{List, [], ◌∷◌, flat_map, zip_with}
-use Rattle.octets.specs.Part.{same}
 use Rattle.octets.specs.Splice.{spliced, fronted}
 use Rattle.des.specs.Tables.{IP, inverse_ip, E, P, PC1, PC2, left_shifts, boxes}
 use Rattle.des.specs.Des.{encipher, computation, bits_of, number, bits, octets, permuted, ◌⊕◌, s_box, selected, f, round, rounds, exchanged, left_shift, both_shifted, key_halves, round_key}
@@ -116,5 +115,5 @@ worked : exchanges
     ∷ (refused 14 ∷ [])
     ∷ (refused 19 ∷ [])
     ∷ []
-unfolding exchanges read transfer program elsewhere echo ech dat plain exchange answers_of station label key na1 na1k after after_asking admission unless_refused weak weak_keys without_parity sound receiver.sound broadcast same spliced fronted on_frame expected performed turn on_echo enciphers echoes encipher computation bits_of number bits octets permuted ◌⊕◌ s_box selected f round rounds exchanged left_shift both_shifted key_halves round_key IP inverse_ip E P PC1 PC2 left_shifts boxes flat_map zip_with
+unfolding exchanges read transfer program elsewhere echo ech dat plain exchange answers_of station label key na1 na1k after after_asking admission unless_refused weak weak_keys without_parity sound receiver.sound broadcast spliced fronted on_frame expected performed turn on_echo enciphers echoes encipher computation bits_of number bits octets permuted ◌⊕◌ s_box selected f round rounds exchanged left_shift both_shifted key_halves round_key IP inverse_ip E P PC1 PC2 left_shifts boxes flat_map zip_with
 worked = refl

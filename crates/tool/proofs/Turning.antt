@@ -1,4 +1,4 @@
--- The turn on ECH, and that AUT is sent after the right one.
+-- AUT is sent after the right ECH.
 use Prim.Native.Nat.{ℕ}
 use mathlib.Core.Path.{◌≡◌}
 use mathlib.Core.Bool.{true, cond}
@@ -13,15 +13,9 @@ use Rattle.frame.specs.declared.content.Fields.{Fields}
 use Rattle.tool.specs.declared.Phase.{Phase}
 use Rattle.tool.specs.declared.Phase.TheVariants.{Programming}
 use Rattle.tool.specs.declared.Tool.{Tool}
-use Rattle.tool.specs.declared.replies.Reply.{Reply}
 use Rattle.tool.specs.declared.replies.Reply.TheVariants.{Ech}
 use Rattle.tool.specs.Parts.{silent}
-use Rattle.tool.specs.Replies.{authenticate, is_echo, enciphers, echoes, on_echo, turn, authenticating, performed, expected, on_frame}
-
-module _ (p : Phase) (t : Tool) (y : Reply) (f : Fields) (d : List ℕ) (tab : ℕ) (n : Octets) (e : p ≡ Programming tab n) where
-  pub echo_turn : is_echo y ≡ true → on_echo t tab n.0 f d ≡ turn p t y f d
-  unfolding turn
-  echo_turn h = rw (e, h)
+use Rattle.tool.specs.Replies.{authenticate, enciphers, echoes, on_echo, turn, authenticating, performed, expected, on_frame}
 
 -- an ECH with the cipher of NA1, the TAB and the DATA sent
 pub right_echo : (t : Tool) (f : Fields) (d : List ℕ) (tab : ℕ) (n : Octets) → f.za1 ≡ encipher t.key t.na1 → f.tab ≡ tab → d ≡ take n.0 t.sent → on_echo t tab n.0 f d ≡ authenticate

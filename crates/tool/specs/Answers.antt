@@ -1,12 +1,12 @@
 -- What an answer says: 01's number, or how far the request has come (01, Numbers handed back).
-use Rattle.std.specs.Prelude.{ℕ, Bool, true, false}
+use Rattle.std.specs.Prelude.{ℕ, Bool, true, false, Result, Ok, Err}
 use Rattle.numbers.specs.Table.{wrong_address, too_long, broken_rule, wrong_cipher, wrong_echo, session_ended, busy, wrong_length, unexpected_frame, rejected, weak_key}
 use Rattle.numbers.specs.Answer.{Answer, given, refused, refused_at}
 use Rattle.frame.specs.Checks.{fault_number}
 use Rattle.tool.specs.declared.Refusal.{Refusal}
 use Rattle.tool.specs.declared.Refusal.TheVariants.{BadFrame, WrongAddress, TooLong, BrokenRule, WrongCipher, WrongEcho, SessionEnded, Busy, WrongLength, Unexpected, Rejected, WeakKey}
-use Rattle.tool.specs.declared.Answer as code
-use Rattle.tool.specs.declared.Answer.TheVariants as variant
+use Rattle.tool.specs.declared.Progress as code
+use Rattle.tool.specs.declared.Progress.TheVariants as variant
 
 abbrev pub refusal_number : Refusal → ℕ
 refusal_number (BadFrame fault) = fault_number fault
@@ -28,11 +28,11 @@ pub data Progress : Type 0 where
   sent : Progress
   done : Progress
 
-abbrev pub answer_of : code.Answer → Answer Progress
-answer_of variant.Nothing = given nothing
-answer_of variant.Sent = given sent
-answer_of variant.Done = given done
-answer_of (variant.Refused refusal) = refused (refusal_number refusal)
+abbrev pub answer_of : Result code.Progress Refusal → Answer Progress
+answer_of (Ok variant.Nothing) = given nothing
+answer_of (Ok variant.Sent) = given sent
+answer_of (Ok variant.Done) = given done
+answer_of (Err refusal) = refused (refusal_number refusal)
 
 -- the request has ended without a number
 abbrev pub is_done : Answer Progress → Bool

@@ -1,5 +1,5 @@
 -- What a whole good frame does to the request that runs (01, The tool).
-use Rattle.std.specs.Prelude.{ℕ, Bool, true, false, cond, ◌&&◌, List, [], eqb, take}
+use Rattle.std.specs.Prelude.{ℕ, Bool, true, false, cond, ◌&&◌, List, [], eqb, take, Result, Ok, Err}
 use Rattle.octets.specs.Part.{same}
 use Rattle.des.specs.Des.{encipher}
 use Rattle.numbers.specs.Answer.{given}
@@ -11,6 +11,7 @@ use Rattle.frame.specs.Building.{frame_octets}
 use Rattle.wake.specs.declared.Wake.TheVariants.{None}
 use Rattle.tool.specs.declared.Phase.{Phase}
 use Rattle.tool.specs.declared.Phase.TheVariants.{Idle, Reading, Transferring, Programming, Authenticating}
+use Rattle.tool.specs.declared.Refusal.{Refusal}
 use Rattle.tool.specs.declared.Tool.{Tool}
 use Rattle.tool.specs.declared.replies.Reply.{Reply}
 use Rattle.tool.specs.declared.replies.Reply.TheVariants.{Dat, Ech, Eos, Drj, Arj, Tra, Other}
@@ -48,12 +49,12 @@ pub data Turn : Type 0 where
   authenticate : Turn
 
 -- the turn that the tool takes by value
-abbrev pub turn_of : code.Turn → Turn
-turn_of variant.Drop = drop
-turn_of variant.Read = read
-turn_of variant.End = end
-turn_of (variant.Fail refusal) = fail (refusal_number refusal)
-turn_of variant.Authenticate = authenticate
+abbrev pub turn_of : Result code.Turn Refusal → Turn
+turn_of (Ok variant.Drop) = drop
+turn_of (Ok variant.Read) = read
+turn_of (Ok variant.End) = end
+turn_of (Err refusal) = fail (refusal_number refusal)
+turn_of (Ok variant.Authenticate) = authenticate
 
 -- After ENQ: DAT with the TAB asked for ends well, "another than asked ends with 14"; the negative answer, DRJ, "ends with 20 .. after ENQ".
 -- "An unexpected good frame from that station for that ADP ends with 19", here and below.

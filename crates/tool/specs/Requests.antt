@@ -1,5 +1,5 @@
 -- Requests: when one is admitted, and what it sends (01, The tool).
-use Rattle.std.specs.Prelude.{ℕ, Bool, true, false, cond, not, ◌&&◌, List, [], eqb, leb, length, replicate}
+use Rattle.std.specs.Prelude.{ℕ, ◌≡◌, ◌≤◌, Bool, true, false, cond, not, ◌&&◌, List, [], eqb, leb, length, replicate, Result, Ok, Err}
 use Rattle.octets.specs.Splice.{fronted}
 use Rattle.des.specs.WeakKeys.{weak}
 use Rattle.numbers.specs.Answer.{given}
@@ -16,10 +16,10 @@ use Rattle.wake.specs.declared.Request.TheVariants.{Enq, Trf, Rec, Trb, Ib}
 use Rattle.wake.specs.Rule as wake
 use Rattle.tool.specs.declared.Phase.{Phase}
 use Rattle.tool.specs.declared.Phase.TheVariants.{Idle, Reading, Transferring, Programming}
+use Rattle.tool.specs.declared.Refusal.{Refusal}
 use Rattle.tool.specs.declared.Tool.{Tool}
+use Rattle.tool.specs.declared.requests.Lent.{Lent}
 use Rattle.tool.specs.declared.requests.Arguments.{Arguments}
-use Rattle.tool.specs.declared.requests.Admission.{Admission}
-use Rattle.tool.specs.declared.requests.Admission.TheVariants.{Admitted, Refused}
 use Rattle.frame.specs.Sizes.{address_width, number_width, most_programmed, most_transferred, longest_frame}
 use Rattle.tool.specs.Answers.{Progress, sent, done, refusal_number}
 use Rattle.tool.specs.Parts.{idle, last_of, in_phase, with_waking, Response, refusing}
@@ -35,9 +35,13 @@ pub record Asking : Type 0 where
   pub key : List ℕ
   pub na1 : List ℕ
 
--- the same from the arguments by value, with DATA beside them
-abbrev pub asking_of : Arguments → List ℕ → Asking
-asking_of a d = record { request = a.request; ads = a.ads; adp = a.adp; tab = a.tab; content = d; key = a.key; na1 = a.na1 }
+-- the same from the arguments as they are lent, and from those by value
+abbrev pub asking_lent : Lent → Asking
+asking_lent l =
+    record { request = l.request; ads = l.ads.now; adp = l.adp; tab = l.tab; content = l.«data».now; key = l.key.now; na1 = l.na1.now }
+
+abbrev pub asking_of : Arguments → Asking
+asking_of a = record { request = a.request; ads = a.ads; adp = a.adp; tab = a.tab; content = a.«data».now; key = a.key; na1 = a.na1 }
 
 abbrev pub zero_number : List ℕ
 zero_number = replicate number_width 0
@@ -115,9 +119,9 @@ admission t q =
     busy)
     broken_rule
 
-abbrev pub number_of_admission : Admission → ℕ
-number_of_admission Admitted = none
-number_of_admission (Refused refusal) = refusal_number refusal
+abbrev pub number_of_admission : Result (Unit {0}) Refusal → ℕ
+number_of_admission (Ok unit) = none
+number_of_admission (Err refusal) = refusal_number refusal
 
 abbrev pub fields_to : List ℕ → ℕ → ℕ → List ℕ → List ℕ → Fields
 fields_to ads adp tab za1 za2 = record { ads = ads; adp = adp; za1 = za1; za2 = za2; tab = tab; announced = replicate address_width 0 }
@@ -177,3 +181,13 @@ after_asking t q buffer_length =
     cond (lent_rightly q.ads q.key q.na1 buffer_length)
     (unless_refused (admission t q) t (sending q t))
     (refusing t wrong_length)
+
+-- the arguments by value of what is lent rightly
+pub record Sized (q : Asking) (a : Arguments) : Type 0 where
+  pub lent : lent_rightly q.ads q.key q.na1 longest_frame ≡ true
+  pub asking : asking_of a ≡ q
+
+-- a request that is not refused, with its arguments by value: its DATA are within its limit, and it is sent
+pub record Accepted (t : Tool) (q : Asking) (a : Arguments) : Type 0 where
+  pub content : length a.«data».now ≤ limit_of a.request
+  pub response : after_asking t q longest_frame ≡ sending (asking_of a) t

@@ -2,6 +2,7 @@
 // The primary station by value: one request at a time, the replies to it, and the wake-up memory (01, The tool).
 ghost use Rattle.std.specs.Prelude.{◌≡◌};
 ghost use Rattle.numbers.specs.Answer.{number_of};
+ghost use Rattle.tool.specs.declared.Refusal.TheVariants.{BadFrame};
 ghost use Rattle.tool.specs.Answers.{refusal_number, answer_of};
 ghost use Rattle.tool.specs.Parts.{fresh};
 
@@ -14,7 +15,6 @@ mod requests;
 mod soundness;
 
 use frame::Fault;
-use frame::checks::fault_number;
 use frame::sizes::{ADDRESS_WIDTH, MOST_TRANSFERRED, NUMBER_WIDTH};
 use numbers::Octets;
 use numbers::table::{
@@ -26,7 +26,8 @@ use wake::{Last, Wake, WakeUps};
 
 // The mark of the request: none runs, and the last was such a one; or one runs, and waits for the reply to ENQ for a TAB, to TRF, to REC with so many
 // octets of DATA, or to AUT. The one that runs is the last.
-#[derive(Clone, Copy)]
+// No option of a request: the idle mark holds a value too.
+#[derive(Clone, Copy, Debug, PartialEq, Eq)]
 pub enum Phase {
     Idle { last: Last },
     Reading { tab: u8 },
@@ -50,7 +51,7 @@ pub struct Tool {
 }
 
 // Why a call is refused, a frame is dropped, or a request has ended without success.
-#[derive(Clone, Copy)]
+#[derive(Clone, Copy, Debug, PartialEq, Eq)]
 pub enum Refusal {
     BadFrame(Fault),
     WrongAddress,
@@ -66,32 +67,33 @@ pub enum Refusal {
     WeakKey,
 }
 
-// What the host is told: nothing; a frame is to be sent, and a reply is awaited; the request has ended well; or a refusal.
-#[derive(Clone, Copy)]
-pub enum Answer {
+// What the host is told without a number: nothing; a frame is to be sent, and a reply is awaited; or the request has ended well.
+// One enum: an option of the other two inside the result would say no more.
+#[derive(Clone, Copy, Debug, PartialEq, Eq)]
+pub enum Progress {
     Nothing,
     Sent,
     Done,
-    Refused(Refusal),
 }
 
 // The next tool beside the answer.
 #[derive(Clone, Copy)]
 pub struct Answered {
     pub tool: Tool,
-    pub answer: Answer,
+    pub answer: Result<Progress, Refusal>,
 }
 
 // The same for a request: which wake-up goes before its frame, and how many octets of the lent buffer are its frame, none where it is refused.
 #[derive(Clone, Copy)]
 pub struct Requested {
     pub tool: Tool,
-    pub answer: Answer,
+    pub answer: Result<Progress, Refusal>,
     pub wake: Wake,
     pub frame: Octets,
 }
 
 // The DATA of a reading, with zeros after them.
+// An array of one length: there is no heap.
 #[derive(Clone, Copy)]
 pub struct Contents {
     pub octets: [u8; MOST_TRANSFERRED],
@@ -102,7 +104,7 @@ pub struct Contents {
 #[derive(Clone, Copy)]
 pub struct Heard {
     pub tool: Tool,
-    pub answer: Answer,
+    pub answer: Result<Progress, Refusal>,
     pub wake: Wake,
     pub frame: Octets,
     pub contents: Contents,
@@ -113,7 +115,7 @@ impl Refusal {
         ensures { result ≡ refusal_number self }
     {
         match self {
-            Refusal::BadFrame(fault) => fault_number(fault),
+            Refusal::BadFrame(fault) => fault.number(),
             Refusal::WrongAddress => WRONG_ADDRESS,
             Refusal::TooLong => TOO_LONG,
             Refusal::BrokenRule => BROKEN_RULE,
@@ -129,16 +131,21 @@ impl Refusal {
     }
 }
 
-impl Answer {
-    pub fn number(self) -> u8
-        ensures { result ≡ number_of (answer_of self) }
-    {
-        match self {
-            Answer::Nothing => NONE,
-            Answer::Sent => NONE,
-            Answer::Done => NONE,
-            Answer::Refused(refusal) => refusal.number(),
-        }
+impl From<Fault> for Refusal {
+    ghost from_gives = { λ fault refusal. refusal ≡ BadFrame fault };
+
+    fn from(fault: Fault) -> Refusal {
+        Refusal::BadFrame(fault)
+    }
+}
+
+// 01's number of an answer, or none.
+pub fn answer_number(answer: Result<Progress, Refusal>) -> u8
+    ensures { result ≡ number_of (answer_of answer) }
+{
+    match answer {
+        Ok(_) => NONE,
+        Err(refusal) => refusal.number(),
     }
 }
 
@@ -147,17 +154,15 @@ impl Tool {
     pub fn new() -> Tool
         ensures { result ≡ fresh }
     {
-        let waking = WakeUps::new();
-        let receiver = Receiver::new();
         Tool {
             phase: Phase::Idle { last: Last::Other },
-            ads: [0u8; ADDRESS_WIDTH],
+            ads: [0; ADDRESS_WIDTH],
             adp: 0,
-            key: [0u8; NUMBER_WIDTH],
-            na1: [0u8; NUMBER_WIDTH],
-            sent: [0u8; MOST_TRANSFERRED],
-            waking: waking,
-            receiver: receiver,
+            key: [0; NUMBER_WIDTH],
+            na1: [0; NUMBER_WIDTH],
+            sent: [0; MOST_TRANSFERRED],
+            waking: WakeUps::new(),
+            receiver: Receiver::new(),
         }
     }
 }

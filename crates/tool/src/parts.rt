@@ -1,89 +1,53 @@
-// A tool with one of its parts another, and the values that its calls hand back.
-ghost use Rattle.std.specs.Prelude.{◌≡◌, []};
+// The values that a tool's calls hand back, and a tool whose request has ended.
+ghost use Rattle.std.specs.Prelude.{◌≡◌, ◌≤◌, length};
+ghost use Rattle.frame.specs.Sizes.{most_transferred};
 ghost use Rattle.tool.specs.Answers.{refusal_number, answer_of};
-ghost use Rattle.tool.specs.Parts.{in_phase, with_receiver, with_waking, ended, ended_well, responding, refusing, over, told, unsent, padded_contents, answer_of_answered, answer_of_requested, answer_of_heard};
+ghost use Rattle.tool.specs.Parts.{ended, ended_well, responding, refusing, over, told, unsent, padded_contents, answer_of_answered, answer_of_requested, answer_of_heard};
 
-use crate::{Answer, Answered, Contents, Heard, Phase, Refusal, Requested, Tool};
-use frame::sizes::MOST_TRANSFERRED;
+use crate::{Answered, Contents, Heard, Phase, Progress, Refusal, Requested, Tool};
 use numbers::Octets;
-use receiver::Receiver;
-use wake::{Wake, WakeUps};
+use wake::Wake;
 
-// Nothing was read.
-fn no_contents() -> Contents
-    ensures { result ≡ padded_contents [] }
+// The contents of a reading.
+#[tactic(auto, using(octets::proofs::Splice::spliced_front))]
+pub(crate) fn padded_contents(data: &[u8]) -> Contents
+    requires { length «data».now ≤ most_transferred }
+    ensures { result ≡ padded_contents «data».now }
 {
     Contents {
-        octets: [0u8; MOST_TRANSFERRED],
-        length: Octets(0),
+        octets: octets::padded(data),
+        length: Octets(data.len()),
     }
 }
 
 impl Tool {
-    pub(crate) fn in_phase(self, phase: Phase) -> Tool
-        ensures { result ≡ in_phase phase self }
-    {
-        let ads = self.ads;
-        let key = self.key;
-        let na1 = self.na1;
-        let sent = self.sent;
-        let waking = self.waking;
-        let receiver = self.receiver;
-        Tool {
-            phase: phase,
-            ads: ads,
-            adp: self.adp,
-            key: key,
-            na1: na1,
-            sent: sent,
-            waking: waking,
-            receiver: receiver,
-        }
-    }
-
-    pub(crate) fn with_receiver(self, receiver: Receiver) -> Tool
-        ensures { result ≡ with_receiver receiver self }
-    {
-        let mut next = self;
-        next.receiver = receiver;
-        next
-    }
-
-    pub(crate) fn with_waking(self, waking: WakeUps) -> Tool
-        ensures { result ≡ with_waking waking self }
-    {
-        let mut next = self;
-        next.waking = waking;
-        next
-    }
-
     // The tool whose request has ended.
     pub(crate) fn ended(self) -> Tool
         ensures { result ≡ ended self }
     {
-        let phase = self.phase;
-        let last = phase.last();
-        self.in_phase(Phase::Idle { last: last })
+        Tool {
+            phase: Phase::Idle {
+                last: self.phase.last(),
+            },
+            ..self
+        }
     }
 
     // The tool whose request has ended without a number.
     pub(crate) fn ended_well(self) -> Tool
         ensures { result ≡ ended_well self }
     {
-        let phase = self.phase;
-        let waking = self.waking;
-        let tool = self.ended();
-        tool.with_waking(waking.succeeded(phase.last()))
+        Tool {
+            waking: self.waking.succeeded(self.phase.last()),
+            ..self.ended()
+        }
     }
 
     // This tool beside the answer.
-    pub(crate) fn answering(self, answer: Answer) -> Answered
+    pub(crate) fn answering(self, answer: Result<Progress, Refusal>) -> Answered
         ensures { answer_of_answered result ≡ told (responding self (answer_of answer)) }
     {
-        Answered {
-            tool: self,
-            answer: answer,
-        }
+        Answered { tool: self, answer }
     }
 
     // The same for a request that is refused.
@@ -92,37 +56,36 @@ impl Tool {
     {
         Requested {
             tool: self,
-            answer: Answer::Refused(refusal),
+            answer: Err(refusal),
             wake: Wake::None,
             frame: Octets(0),
         }
     }
 
     // The same for an octet, with nothing to send, no wake-up and these contents.
-    pub(crate) fn telling(self, answer: Answer, contents: Contents) -> Heard
+    pub(crate) fn telling(self, answer: Result<Progress, Refusal>, contents: Contents) -> Heard
         ensures { answer_of_heard result ≡ unsent self (answer_of answer) contents }
     {
         Heard {
             tool: self,
-            answer: answer,
+            answer,
             wake: Wake::None,
             frame: Octets(0),
-            contents: contents,
+            contents,
         }
     }
 
     // The same with nothing read.
-    pub(crate) fn hearing(self, answer: Answer) -> Heard
+    pub(crate) fn hearing(self, answer: Result<Progress, Refusal>) -> Heard
         ensures { answer_of_heard result ≡ told (responding self (answer_of answer)) }
     {
-        self.telling(answer, no_contents())
+        self.telling(answer, padded_contents(&[]))
     }
 
     // The request has ended with a number.
     pub(crate) fn over(self, refusal: Refusal) -> Heard
         ensures { answer_of_heard result ≡ told (over self (refusal_number refusal)) }
     {
-        let tool = self.ended();
-        tool.hearing(Answer::Refused(refusal))
+        self.ended().hearing(Err(refusal))
     }
 }

@@ -10,13 +10,7 @@ impl Phase {
     pub(crate) fn idle(self) -> bool
         ensures { result ≡ idle self }
     {
-        match self {
-            Phase::Idle { last: _ } => true,
-            Phase::Reading { tab: _ } => false,
-            Phase::Transferring => false,
-            Phase::Programming { tab: _, length: _ } => false,
-            Phase::Authenticating => false,
-        }
+        matches!(self, Phase::Idle { .. })
     }
 
     // The last request: the one that runs, or the one before.
@@ -25,10 +19,8 @@ impl Phase {
     {
         match self {
             Phase::Idle { last } => last,
-            Phase::Reading { tab: _ } => Last::EnqTrf,
-            Phase::Transferring => Last::EnqTrf,
-            Phase::Programming { tab: _, length: _ } => Last::Other,
-            Phase::Authenticating => Last::Other,
+            Phase::Reading { .. } | Phase::Transferring => Last::EnqTrf,
+            Phase::Programming { .. } | Phase::Authenticating => Last::Other,
         }
     }
 }

@@ -1,15 +1,15 @@
 // What a whole good frame does to the request that runs (01, The tool).
 ghost use Rattle.std.specs.Prelude.{◌≡◌, ◌≤◌, length};
-ghost use Rattle.frame.specs.Sizes.{most_programmed, most_transferred, longest_frame};
+ghost use Rattle.frame.specs.Sizes.{most_transferred};
 ghost use Rattle.numbers.specs.Answer.{given};
 ghost use Rattle.tool.specs.Answers.{done};
-ghost use Rattle.tool.specs.Parts.{ended_well, unsent, padded_contents, answer_of_heard, Gives};
-ghost use Rattle.tool.specs.Replies.{reply_of, turn_of, on_reading, on_transferring, is_echo, on_authenticating, enciphers, echoes, on_echo, turn, authentication, authenticating, performed, expected, on_frame};
-ghost use Rattle.tool.specs.Soundness.{sent_length};
+ghost use Rattle.tool.specs.Parts.{ended_well, unsent, answer_of_heard, Gives};
+ghost use Rattle.tool.specs.Replies.{reply_of, turn_of, on_reading, on_transferring, on_authenticating, enciphers, echoes, on_echo, turn, authentication, authenticating, performed, expected, on_frame};
 
 use crate::frames::{fields_to, send};
-use crate::{Answer, Contents, Heard, Phase, Refusal, Tool};
-use frame::sizes::{MOST_TRANSFERRED, NUMBER_WIDTH};
+use crate::parts::padded_contents;
+use crate::{Contents, Heard, Phase, Progress, Refusal, Tool};
+use frame::sizes::{LONGEST_FRAME, MOST_TRANSFERRED, NUMBER_WIDTH};
 use frame::{Command, Fields};
 use numbers::Octets;
 
@@ -25,13 +25,12 @@ pub(crate) enum Reply {
     Other,
 }
 
-// What a reply does: it is dropped; it ends a reading with its DATA; it ends the request without a number; it ends it with one; or AUT follows.
+// What a reply does where it doesn't end the request with a number: it is dropped; it ends a reading with its DATA; it ends the request; or AUT follows.
 #[derive(Clone, Copy)]
 pub(crate) enum Turn {
     Drop,
     Read,
     End,
-    Fail(Refusal),
     Authenticate,
 }
 
@@ -39,158 +38,98 @@ fn reply_of(command: Command) -> Reply
     ensures { result ≡ reply_of command }
 {
     match command {
-        Command::Enq => Reply::Other,
         Command::Dat => Reply::Dat,
-        Command::Rec => Reply::Other,
         Command::Ech => Reply::Ech,
-        Command::Aut => Reply::Other,
         Command::Eos => Reply::Eos,
-        Command::Aso => Reply::Other,
-        Command::Rso => Reply::Other,
-        Command::Ib => Reply::Other,
         Command::Drj => Reply::Drj,
         Command::Arj => Reply::Arj,
-        Command::Trf => Reply::Other,
-        Command::Trb => Reply::Other,
         Command::Tra => Reply::Tra,
-        Command::Pre => Reply::Other,
-        Command::Sel => Reply::Other,
+        _ => Reply::Other,
     }
 }
 
 // A reply to ENQ, with the TAB asked for or another.
-fn on_reading(reply: Reply, asked: bool) -> Turn
+fn on_reading(reply: Reply, asked: bool) -> Result<Turn, Refusal>
     ensures { turn_of result ≡ on_reading reply asked }
 {
     match reply {
-        Reply::Dat => {
-            if asked {
-                Turn::Read
-            } else {
-                Turn::Fail(Refusal::WrongEcho)
-            }
-        }
-        Reply::Ech => Turn::Fail(Refusal::Unexpected),
-        Reply::Eos => Turn::Fail(Refusal::Unexpected),
-        Reply::Drj => Turn::Fail(Refusal::Rejected),
-        Reply::Arj => Turn::Fail(Refusal::Unexpected),
-        Reply::Tra => Turn::Fail(Refusal::Unexpected),
-        Reply::Other => Turn::Fail(Refusal::Unexpected),
+        Reply::Dat if asked => Ok(Turn::Read),
+        Reply::Dat => Err(Refusal::WrongEcho),
+        Reply::Drj => Err(Refusal::Rejected),
+        _ => Err(Refusal::Unexpected),
     }
 }
 
 // A reply to TRF.
-fn on_transferring(reply: Reply) -> Turn
+fn on_transferring(reply: Reply) -> Result<Turn, Refusal>
     ensures { turn_of result ≡ on_transferring reply }
 {
     match reply {
-        Reply::Dat => Turn::Fail(Refusal::Unexpected),
-        Reply::Ech => Turn::Fail(Refusal::Unexpected),
-        Reply::Eos => Turn::Fail(Refusal::Unexpected),
-        Reply::Drj => Turn::Fail(Refusal::Rejected),
-        Reply::Arj => Turn::Fail(Refusal::Unexpected),
-        Reply::Tra => Turn::End,
-        Reply::Other => Turn::Fail(Refusal::Unexpected),
-    }
-}
-
-fn is_echo(reply: Reply) -> bool
-    ensures { result ≡ is_echo reply }
-{
-    match reply {
-        Reply::Dat => false,
-        Reply::Ech => true,
-        Reply::Eos => false,
-        Reply::Drj => false,
-        Reply::Arj => false,
-        Reply::Tra => false,
-        Reply::Other => false,
+        Reply::Tra => Ok(Turn::End),
+        Reply::Drj => Err(Refusal::Rejected),
+        _ => Err(Refusal::Unexpected),
     }
 }
 
 // A reply to AUT.
-fn on_authenticating(reply: Reply) -> Turn
+fn on_authenticating(reply: Reply) -> Result<Turn, Refusal>
     ensures { turn_of result ≡ on_authenticating reply }
 {
     match reply {
-        Reply::Dat => Turn::Fail(Refusal::Unexpected),
-        Reply::Ech => Turn::Fail(Refusal::Unexpected),
-        Reply::Eos => Turn::End,
-        Reply::Drj => Turn::Fail(Refusal::Rejected),
-        Reply::Arj => Turn::Fail(Refusal::WrongCipher),
-        Reply::Tra => Turn::Fail(Refusal::Unexpected),
-        Reply::Other => Turn::Fail(Refusal::Unexpected),
-    }
-}
-
-// The contents of a reading.
-fn padded_contents(data: &[u8]) -> Contents
-    requires { length «data».now ≤ most_transferred }
-    ensures { result ≡ padded_contents «data».now }
-{
-    let mut octets = [0u8; MOST_TRANSFERRED];
-    octets::put(&mut octets, 0, data);
-    Contents {
-        octets: octets,
-        length: Octets(data.len()),
+        Reply::Eos => Ok(Turn::End),
+        Reply::Drj => Err(Refusal::Rejected),
+        Reply::Arj => Err(Refusal::WrongCipher),
+        _ => Err(Refusal::Unexpected),
     }
 }
 
 impl Tool {
     // Whether ECH's ZA1 is NA1 enciphered.
+    #[tactic(auto, unfolding(crate::specs::Replies::enciphers))]
     fn enciphers(self, za1: [u8; NUMBER_WIDTH]) -> bool
         ensures { result ≡ enciphers self za1 }
     {
-        let key = self.key;
-        let na1 = self.na1;
-        let na1k = des::encipher(key, na1);
-        octets::equal(&za1, &na1k)
+        let na1k = des::encipher(self.key, self.na1);
+        za1 == na1k
     }
 
     // Whether ECH's TAB and DATA are those sent.
+    #[tactic(auto, unfolding(crate::specs::Replies::echoes))]
     fn echoes(self, tab: u8, count: Octets, fields: Fields, data: &[u8]) -> bool
-        requires { count.0 ≤ most_programmed }
         ensures { result ≡ echoes self tab count.0 fields «data».now }
     {
-        if fields.tab != tab {
-            return false;
-        }
-        let sent = self.sent;
-        let end = count.0;
-        octets::equal(data, &sent[..end])
+        fields.tab == tab && data == &self.sent[..count.0.min(MOST_TRANSFERRED)]
     }
 
     // ECH: its ZA1 (13), then its TAB and DATA (14), only then AUT.
-    fn on_echo(self, tab: u8, count: Octets, fields: Fields, data: &[u8]) -> Turn
-        requires { count.0 ≤ most_programmed }
+    #[tactic(auto, unfolding(crate::specs::Replies::on_echo))]
+    fn on_echo(self, tab: u8, count: Octets, fields: Fields, data: &[u8]) -> Result<Turn, Refusal>
         ensures { turn_of result ≡ on_echo self tab count.0 fields «data».now }
     {
-        let za1 = fields.za1;
-        if !self.enciphers(za1) {
-            return Turn::Fail(Refusal::WrongCipher);
+        if !self.enciphers(fields.za1) {
+            return Err(Refusal::WrongCipher);
         }
         if !self.echoes(tab, count, fields, data) {
-            return Turn::Fail(Refusal::WrongEcho);
+            return Err(Refusal::WrongEcho);
         }
-        Turn::Authenticate
+        Ok(Turn::Authenticate)
     }
 
     // What a frame from the station of the request, for its ADP, does.
-    fn turn_on(self, reply: Reply, fields: Fields, data: &[u8]) -> Turn
-        requires { sent_length self.phase ≤ most_programmed }
+    #[tactic(auto, unfolding(crate::specs::Replies::turn))]
+    fn turn_on(self, reply: Reply, fields: Fields, data: &[u8]) -> Result<Turn, Refusal>
         ensures { turn_of result ≡ turn self.phase self reply fields «data».now }
     {
-        let phase = self.phase;
-        match phase {
-            Phase::Idle { last: _ } => Turn::Drop,
+        // A match, since its arms take different arguments.
+        match self.phase {
+            Phase::Idle { .. } => Ok(Turn::Drop),
             Phase::Reading { tab } => on_reading(reply, fields.tab == tab),
             Phase::Transferring => on_transferring(reply),
             Phase::Programming { tab, length } => {
-                if is_echo(reply) {
-                    self.on_echo(tab, length, fields, data)
-                } else {
-                    Turn::Fail(Refusal::Unexpected)
-                }
+                let Reply::Ech = reply else {
+                    return Err(Refusal::Unexpected);
+                };
+                self.on_echo(tab, length, fields, data)
             }
             Phase::Authenticating => on_authenticating(reply),
         }
@@ -200,75 +139,74 @@ impl Tool {
     fn finished(self, contents: Contents) -> Heard
         ensures { answer_of_heard result ≡ unsent (ended_well self) (given done) contents }
     {
-        let tool = self.ended_well();
-        tool.telling(Answer::Done, contents)
+        self.ended_well().telling(Ok(Progress::Done), contents)
     }
 
     // AUT's fields, with NA2 enciphered.
     fn authentication(self, za2: [u8; NUMBER_WIDTH]) -> Fields
         ensures { result ≡ authentication self za2 }
     {
-        let key = self.key;
-        let ads = self.ads;
-        let na2k = des::encipher(key, za2);
-        fields_to(ads, self.adp, 0, [0u8; NUMBER_WIDTH], na2k)
+        let na2k = des::encipher(self.key, za2);
+        fields_to(self.ads, self.adp, 0, [0; NUMBER_WIDTH], na2k)
     }
 
     // AUT is sent.
-    fn authenticating(self, za2: [u8; NUMBER_WIDTH], frame: &mut [u8]) -> Heard
-        requires { longest_frame ≤ length frame.old }
+    #[tactic(auto, unfolding(frame::specs::Layout::within, frame::specs::Layout::layout_of, octets::specs::Between::between))]
+    fn authenticating(self, za2: [u8; NUMBER_WIDTH], frame: &mut [u8; LONGEST_FRAME]) -> Heard
         ensures { Gives (authenticating za2 self) frame.old frame.new (answer_of_heard result) }
     {
-        let fields = self.authentication(za2);
-        let tool = self.in_phase(Phase::Authenticating);
-        let mut next = tool.hearing(Answer::Sent);
-        let sent = send(frame, Command::Aut, fields, &[]);
-        next.frame = sent;
-        next
+        let tool = Tool {
+            phase: Phase::Authenticating,
+            ..self
+        };
+        Heard {
+            frame: send(frame, Command::Aut, self.authentication(za2), &[]),
+            ..tool.hearing(Ok(Progress::Sent))
+        }
     }
 
     // What a turn of the request comes to.
-    fn perform(self, turn: Turn, fields: Fields, data: &[u8], frame: &mut [u8]) -> Heard
-        requires { (length «data».now ≤ most_transferred) × (longest_frame ≤ length frame.old) }
+    fn perform(
+        self,
+        turn: Result<Turn, Refusal>,
+        fields: Fields,
+        data: &[u8],
+        frame: &mut [u8; LONGEST_FRAME],
+    ) -> Heard
+        requires { length «data».now ≤ most_transferred }
         ensures { Gives (performed (turn_of turn) fields «data».now self) frame.old frame.new (answer_of_heard result) }
     {
         match turn {
-            Turn::Drop => self.hearing(Answer::Nothing),
-            Turn::Read => self.finished(padded_contents(data)),
-            Turn::End => self.finished(padded_contents(&[])),
-            Turn::Fail(refusal) => self.over(refusal),
-            Turn::Authenticate => {
-                let za2 = fields.za2;
-                self.authenticating(za2, frame)
-            }
+            Ok(Turn::Drop) => self.hearing(Ok(Progress::Nothing)),
+            Ok(Turn::Read) => self.finished(padded_contents(data)),
+            Ok(Turn::End) => self.finished(padded_contents(&[])),
+            Ok(Turn::Authenticate) => self.authenticating(fields.za2, frame),
+            Err(refusal) => self.over(refusal),
         }
     }
 
     // Whether a frame is from the station of the request, for its ADP.
+    #[tactic(auto, unfolding(crate::specs::Replies::expected))]
     fn expected(self, fields: Fields) -> bool
         ensures { result ≡ expected self fields }
     {
-        let asked = self.ads;
-        let ads = fields.ads;
-        if !octets::equal(&ads, &asked) {
-            return false;
-        }
-        fields.adp == self.adp
+        fields.ads == self.ads && fields.adp == self.adp
     }
 
     // A whole good frame.
+    #[tactic(auto, unfolding(crate::specs::Replies::on_frame))]
     pub(crate) fn on_frame(
         self,
         command: Command,
         fields: Fields,
         data: &[u8],
-        frame: &mut [u8],
+        frame: &mut [u8; LONGEST_FRAME],
     ) -> Heard
-        requires { (sent_length self.phase ≤ most_programmed) × ((length «data».now ≤ most_transferred) × (longest_frame ≤ length frame.old)) }
+        requires { length «data».now ≤ most_transferred }
         ensures { Gives (on_frame self command fields «data».now) frame.old frame.new (answer_of_heard result) }
     {
         if !self.expected(fields) {
-            return self.hearing(Answer::Nothing);
+            return self.hearing(Ok(Progress::Nothing));
         }
         let turn = self.turn_on(reply_of(command), fields, data);
         self.perform(turn, fields, data, frame)

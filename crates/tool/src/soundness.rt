@@ -11,24 +11,17 @@ impl Phase {
         ensures { result ≡ within_rec self }
     {
         match self {
-            Phase::Idle { last: _ } => true,
-            Phase::Reading { tab: _ } => true,
-            Phase::Transferring => true,
-            Phase::Programming { tab: _, length } => length.0 <= MOST_PROGRAMMED,
-            Phase::Authenticating => true,
+            Phase::Programming { length, .. } => length.0 <= MOST_PROGRAMMED,
+            _ => true,
         }
     }
 }
 
 impl Tool {
+    #[tactic(auto, unfolding(crate::specs::Soundness::sound))]
     pub(crate) fn sound(self) -> bool
         ensures { result ≡ sound self }
     {
-        let phase = self.phase;
-        if !phase.within_rec() {
-            return false;
-        }
-        let receiver = self.receiver;
-        receiver.is_sound()
+        self.phase.within_rec() && self.receiver.is_sound()
     }
 }

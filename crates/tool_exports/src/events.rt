@@ -11,10 +11,11 @@ ghost use Rattle.tool_exports.specs.Settling.{SettledOctet};
 use crate::settling::{done_mark, store};
 use frame::sizes::MOST_TRANSFERRED;
 use numbers::table::NONE;
-use tool::{Answered, Contents, Heard};
+use tool::{Answered, Contents, Heard, answer_number};
 use tool_memory::layout::SIZE;
 
 // A fresh tool: no request runs, the receiver is empty, and there was no request yet.
+#[tactic(auto, unfolding(tool_memory::specs::Decoding::fresh_memory))]
 #[unsafe(no_mangle)]
 pub extern "C" fn propolisk_tool_new(memory: &mut [u8; SIZE])
     ensures { memory.new ≡ fresh_memory }
@@ -26,9 +27,11 @@ pub extern "C" fn propolisk_tool_new(memory: &mut [u8; SIZE])
 fn show(contents: Contents, data: &mut [u8; MOST_TRANSFERRED])
     ensures { «data».new ≡ spliced «data».old 0 (part_of contents.octets 0 contents.length.0) }
 {
-    let held = contents.octets;
-    let amount = contents.length;
-    octets::put(data, 0, octets::part(&held, 0, amount.0));
+    octets::put(
+        data,
+        0,
+        octets::part(&contents.octets, 0, contents.length.0),
+    );
 }
 
 // What an octet leaves besides the frame: the memory, and the cells and a reading's DATA where it has no number.
@@ -42,20 +45,14 @@ fn settle(
 ) -> u8
     ensures { SettledOctet (answer_of_heard heard) result memory.old memory.new length.old length.new ended.old ended.new «data».old «data».new count.old count.new }
 {
-    let tool = heard.tool;
-    let answer = heard.answer;
-    let number = answer.number();
-    store(memory, tool, number);
-    if number != NONE {
-        return number;
+    let number = answer_number(heard.answer);
+    store(memory, heard.tool, number);
+    if number == NONE {
+        show(heard.contents, data);
+        *length = heard.frame.0;
+        *ended = done_mark(heard.answer);
+        *count = heard.contents.length.0;
     }
-    let frame = heard.frame;
-    let contents = heard.contents;
-    let amount = contents.length;
-    show(contents, data);
-    *length = frame.0;
-    *ended = done_mark(answer);
-    *count = amount.0;
     number
 }
 
@@ -70,10 +67,9 @@ pub extern "C" fn propolisk_tool_octet(
     data: &mut [u8; MOST_TRANSFERRED],
     count: &mut usize,
 ) -> u8
-    ensures { record { number = result; memory = memory.new; loan = record { frame = frame.exit.now; length = length.new; ended = ended.new; content = «data».new; count = count.new } } ≡ octet_outcome octet memory.old (record { frame = frame.entry.now; length = length.old; ended = ended.old; content = «data».old; count = count.old }) }
+    ensures { record { number = result; memory = memory.new; loan = record { frame = frame.new; length = length.new; ended = ended.new; content = «data».new; count = count.new } } ≡ octet_outcome octet memory.old (record { frame = frame.old; length = length.old; ended = ended.old; content = «data».old; count = count.old }) }
 {
-    let tool = tool_memory::decode(memory);
-    let heard = tool.octet(octet, frame);
+    let heard = tool_memory::decode(memory).octet(octet, frame);
     settle(memory, heard, length, ended, data, count)
 }
 
@@ -81,27 +77,27 @@ pub extern "C" fn propolisk_tool_octet(
 fn conclude(memory: &mut [u8; SIZE], answered: Answered) -> u8
     ensures { record { number = result; memory = memory.new } ≡ event_shown (answer_of_answered answered) memory.old }
 {
-    let tool = answered.tool;
-    let answer = answered.answer;
-    let number = answer.number();
-    store(memory, tool, number);
+    let number = answer_number(answered.answer);
+    store(memory, answered.tool, number);
     number
 }
 
 // A gap: 12, or 3 inside a frame.
+#[tactic(auto, unfolding(crate::specs::Outcomes::event_outcome, tool::specs::Events::after))]
 #[unsafe(no_mangle)]
 pub extern "C" fn propolisk_tool_gap(memory: &mut [u8; SIZE]) -> u8
     ensures { record { number = result; memory = memory.new } ≡ event_outcome gap memory.old }
 {
-    let tool = tool_memory::decode(memory);
-    conclude(memory, tool.gap())
+    let answered = tool_memory::decode(memory).gap();
+    conclude(memory, answered)
 }
 
 // A session end: 12, or 15 where a request runs.
+#[tactic(auto, unfolding(crate::specs::Outcomes::event_outcome, tool::specs::Events::after))]
 #[unsafe(no_mangle)]
 pub extern "C" fn propolisk_tool_session_end(memory: &mut [u8; SIZE]) -> u8
     ensures { record { number = result; memory = memory.new } ≡ event_outcome session_end memory.old }
 {
-    let tool = tool_memory::decode(memory);
-    conclude(memory, tool.session_end())
+    let answered = tool_memory::decode(memory).session_end();
+    conclude(memory, answered)
 }

@@ -7,7 +7,7 @@ ghost use Rattle.tool_exports.specs.Settling.{Settled};
 
 use crate::settling::{done_mark, store, wake_mark};
 use numbers::table::NONE;
-use tool::Requested;
+use tool::{Requested, answer_number};
 use tool_memory::layout::SIZE;
 
 // What a request leaves besides its frame: the memory, and the cells where it is not refused.
@@ -20,18 +20,13 @@ fn settle(
 ) -> u8
     ensures { Settled (answer_of_requested requested) result memory.old memory.new length.old length.new wake.old wake.new ended.old ended.new }
 {
-    let tool = requested.tool;
-    let answer = requested.answer;
-    let number = answer.number();
-    store(memory, tool, number);
-    if number != NONE {
-        return number;
+    let number = answer_number(requested.answer);
+    store(memory, requested.tool, number);
+    if number == NONE {
+        *length = requested.frame.0;
+        *wake = wake_mark(requested.wake);
+        *ended = done_mark(requested.answer);
     }
-    let frame = requested.frame;
-    let waking = requested.wake;
-    *length = frame.0;
-    *wake = wake_mark(waking);
-    *ended = done_mark(answer);
     number
 }
 
@@ -47,10 +42,9 @@ pub extern "C" fn propolisk_tool_read(
     wake: &mut u8,
     ended: &mut u8,
 ) -> u8
-    ensures { record { number = result; memory = memory.new; loan = record { frame = frame.exit.now; length = length.new; wake = wake.new; ended = ended.new } } ≡ request_outcome (reading ads.now adp tab) memory.old (record { frame = frame.entry.now; length = length.old; wake = wake.old; ended = ended.old }) }
+    ensures { record { number = result; memory = memory.new; loan = record { frame = frame.new; length = length.new; wake = wake.new; ended = ended.new } } ≡ request_outcome (reading ads.now adp tab) memory.old (record { frame = frame.old; length = length.old; wake = wake.old; ended = ended.old }) }
 {
-    let tool = tool_memory::decode(memory);
-    let requested = tool.read(ads, adp, tab, frame);
+    let requested = tool_memory::decode(memory).read(ads, adp, tab, frame);
     settle(memory, requested, length, wake, ended)
 }
 
@@ -67,10 +61,9 @@ pub extern "C" fn propolisk_tool_transfer(
     wake: &mut u8,
     ended: &mut u8,
 ) -> u8
-    ensures { record { number = result; memory = memory.new; loan = record { frame = frame.exit.now; length = length.new; wake = wake.new; ended = ended.new } } ≡ request_outcome (transferring ads.now adp tab «data».now) memory.old (record { frame = frame.entry.now; length = length.old; wake = wake.old; ended = ended.old }) }
+    ensures { record { number = result; memory = memory.new; loan = record { frame = frame.new; length = length.new; wake = wake.new; ended = ended.new } } ≡ request_outcome (transferring ads.now adp tab «data».now) memory.old (record { frame = frame.old; length = length.old; wake = wake.old; ended = ended.old }) }
 {
-    let tool = tool_memory::decode(memory);
-    let requested = tool.transfer(ads, adp, tab, data, frame);
+    let requested = tool_memory::decode(memory).transfer(ads, adp, tab, data, frame);
     settle(memory, requested, length, wake, ended)
 }
 
@@ -89,10 +82,9 @@ pub extern "C" fn propolisk_tool_program(
     wake: &mut u8,
     ended: &mut u8,
 ) -> u8
-    ensures { record { number = result; memory = memory.new; loan = record { frame = frame.exit.now; length = length.new; wake = wake.new; ended = ended.new } } ≡ request_outcome (programming ads.now adp tab «data».now key.now na1.now) memory.old (record { frame = frame.entry.now; length = length.old; wake = wake.old; ended = ended.old }) }
+    ensures { record { number = result; memory = memory.new; loan = record { frame = frame.new; length = length.new; wake = wake.new; ended = ended.new } } ≡ request_outcome (programming ads.now adp tab «data».now key.now na1.now) memory.old (record { frame = frame.old; length = length.old; wake = wake.old; ended = ended.old }) }
 {
-    let tool = tool_memory::decode(memory);
-    let requested = tool.program(ads, adp, tab, data, key, na1, frame);
+    let requested = tool_memory::decode(memory).program(ads, adp, tab, data, key, na1, frame);
     settle(memory, requested, length, wake, ended)
 }
 
@@ -109,10 +101,9 @@ pub extern "C" fn propolisk_tool_broadcast(
     wake: &mut u8,
     ended: &mut u8,
 ) -> u8
-    ensures { record { number = result; memory = memory.new; loan = record { frame = frame.exit.now; length = length.new; wake = wake.new; ended = ended.new } } ≡ request_outcome (broadcasting ads.now adp tab «data».now) memory.old (record { frame = frame.entry.now; length = length.old; wake = wake.old; ended = ended.old }) }
+    ensures { record { number = result; memory = memory.new; loan = record { frame = frame.new; length = length.new; wake = wake.new; ended = ended.new } } ≡ request_outcome (broadcasting ads.now adp tab «data».now) memory.old (record { frame = frame.old; length = length.old; wake = wake.old; ended = ended.old }) }
 {
-    let tool = tool_memory::decode(memory);
-    let requested = tool.broadcast(ads, adp, tab, data, frame);
+    let requested = tool_memory::decode(memory).broadcast(ads, adp, tab, data, frame);
     settle(memory, requested, length, wake, ended)
 }
 
@@ -127,9 +118,8 @@ pub extern "C" fn propolisk_tool_initialise(
     wake: &mut u8,
     ended: &mut u8,
 ) -> u8
-    ensures { record { number = result; memory = memory.new; loan = record { frame = frame.exit.now; length = length.new; wake = wake.new; ended = ended.new } } ≡ request_outcome (initialising ads.now adp) memory.old (record { frame = frame.entry.now; length = length.old; wake = wake.old; ended = ended.old }) }
+    ensures { record { number = result; memory = memory.new; loan = record { frame = frame.new; length = length.new; wake = wake.new; ended = ended.new } } ≡ request_outcome (initialising ads.now adp) memory.old (record { frame = frame.old; length = length.old; wake = wake.old; ended = ended.old }) }
 {
-    let tool = tool_memory::decode(memory);
-    let requested = tool.initialise(ads, adp, frame);
+    let requested = tool_memory::decode(memory).initialise(ads, adp, frame);
     settle(memory, requested, length, wake, ended)
 }

@@ -1,6 +1,6 @@
 // The mark of the request, with its TAB and its length. `specs/Marks.antt` has the same names.
 ghost use Rattle.std.specs.Prelude.{◌≡◌};
-ghost use Rattle.tool_memory.specs.Marks.{unused, phase_of, idle_mark_of, mark_of, tab_of, sent_length_of};
+ghost use Rattle.tool_memory.specs.Marks.{phase_of, mark_of, tab_of, sent_length_of};
 
 use numbers::Octets;
 use receiver_memory::narrowed;
@@ -23,39 +23,26 @@ const CALLED_MARK: u8 = 5;
 pub(crate) const LAST_MARK: u8 = CALLED_MARK;
 
 // A phase that every call refuses with 12.
-pub(crate) fn unused() -> Phase
-    ensures { result ≡ unused }
-{
-    Phase::Programming {
-        tab: 0,
-        length: Octets(255),
-    }
-}
+pub(crate) const UNUSED: Phase = Phase::Programming {
+    tab: 0,
+    length: Octets(255),
+};
 
+#[tactic(auto, unfolding(crate::specs::Marks::phase_of))]
 pub(crate) fn phase_of(mark: u8, tab: u8, length: u8) -> Phase
     ensures { result ≡ phase_of mark tab length }
 {
     match mark {
         IDLE_MARK => Phase::Idle { last: Last::Other },
-        READING_MARK => Phase::Reading { tab: tab },
+        READING_MARK => Phase::Reading { tab },
         TRANSFERRING_MARK => Phase::Transferring,
         PROGRAMMING_MARK => Phase::Programming {
-            tab: tab,
-            length: Octets(length as usize),
+            tab,
+            length: Octets(usize::from(length)),
         },
         AUTHENTICATING_MARK => Phase::Authenticating,
         CALLED_MARK => Phase::Idle { last: Last::EnqTrf },
-        _ => unused(),
-    }
-}
-
-// The mark where no request runs.
-fn idle_mark(last: Last) -> u8
-    ensures { result ≡ idle_mark_of last }
-{
-    match last {
-        Last::EnqTrf => CALLED_MARK,
-        Last::Other => IDLE_MARK,
+        _ => UNUSED,
     }
 }
 
@@ -63,10 +50,11 @@ pub(crate) fn mark_of(phase: Phase) -> u8
     ensures { result ≡ mark_of phase }
 {
     match phase {
-        Phase::Idle { last } => idle_mark(last),
-        Phase::Reading { tab: _ } => READING_MARK,
+        Phase::Idle { last: Last::EnqTrf } => CALLED_MARK,
+        Phase::Idle { last: Last::Other } => IDLE_MARK,
+        Phase::Reading { .. } => READING_MARK,
         Phase::Transferring => TRANSFERRING_MARK,
-        Phase::Programming { tab: _, length: _ } => PROGRAMMING_MARK,
+        Phase::Programming { .. } => PROGRAMMING_MARK,
         Phase::Authenticating => AUTHENTICATING_MARK,
     }
 }
@@ -76,11 +64,8 @@ pub(crate) fn tab_of(phase: Phase, was: u8) -> u8
     ensures { result ≡ tab_of phase was }
 {
     match phase {
-        Phase::Idle { last: _ } => was,
-        Phase::Reading { tab } => tab,
-        Phase::Transferring => was,
-        Phase::Programming { tab, length: _ } => tab,
-        Phase::Authenticating => was,
+        Phase::Reading { tab } | Phase::Programming { tab, .. } => tab,
+        _ => was,
     }
 }
 
@@ -89,10 +74,7 @@ pub(crate) fn sent_length_of(phase: Phase, was: u8) -> u8
     ensures { result ≡ sent_length_of phase was }
 {
     match phase {
-        Phase::Idle { last: _ } => was,
-        Phase::Reading { tab: _ } => was,
-        Phase::Transferring => was,
-        Phase::Programming { tab: _, length } => narrowed(length.0),
-        Phase::Authenticating => was,
+        Phase::Programming { length, .. } => narrowed(length.0),
+        _ => was,
     }
 }

@@ -4,14 +4,12 @@ use Rattle.tool.proofs.Lengths.{receiver_length}
 use Rattle.tool.proofs.Sound.{test_sound}
 use Rattle.tool.specs.Events.{after_gap}
 use Rattle.tool.specs.Soundness.{sound}
-use Rattle.tool.specs.Answers.{nothing}
-use Rattle.tool.specs.Parts.{told, responding}
-use Rattle.frame.specs.Checks.{fault_number}
-use Rattle.numbers.specs.Answer as answer
+use Rattle.tool.specs.Parts.{told}
 use Rattle.receiver.proofs.Follows.{Follows, gap_follows}
 use Rattle.receiver.specs.Receiver.{Response, answer_of_event, answer_of_received, reception_of, stepped, after_gap as receiver_after_gap}
 use Rattle.receiver.specs.Receiving.{on_gap}
 use mathlib.Core.Bool.{true}
+use mathlib.Core.Logic.{inl, inr}
 use mathlib.Core.Path.{◌≡◌, sym, ap, ◌∙◌}
 use Rattle.tool.proofs.Tool.gap.Goals.{After-gap-received, Else-not-sound}
 use Rattle.tool.proofs.Tool.gap.Goals as goal
@@ -35,17 +33,17 @@ returns-then-not-sound c = rw (sym c.sound.ensures ∙ c.if-not-sound.true) c.an
 pub returns-in-Nothing : goal.returns-in-Nothing
 unfolding after_gap
 returns-in-Nothing c = let t = c.args.self in
-    let e = told_nothing t _ c.gap-received.result (follows (goal.at.returns-in-Nothing c).After-gap-received) c.in-Nothing.is in
-    rw (passed (goal.at.returns-in-Nothing c).Else-not-sound) (c.answering-in-Nothing.ensures ∙ ap told (ap (λ n. responding n (answer.given nothing)) c.with_receiver-tool.ensures ∙ e))
+    let f = follows (goal.at.returns-in-Nothing c).After-gap-received in
+    elim c.in-Nothing.is [
+      | inl e ↦ rw (passed (goal.at.returns-in-Nothing c).Else-not-sound) (c.answering-in-Nothing.ensures ∙ ap told (told_nothing t _ c.gap-received.result f e))
+      | inr e ↦ told_no_frame t c.gap-received.result f e.0 e.1
+    ]
 
 pub returns-in-Bad : goal.returns-in-Bad
 unfolding after_gap
 returns-in-Bad c = let t = c.args.self in
     let e = told_bad t _ c.gap-received.result (follows (goal.at.returns-in-Bad c).After-gap-received) _ c.in-Bad.is in
-    rw (passed (goal.at.returns-in-Bad c).Else-not-sound) (c.answering-in-Bad.ensures ∙ ap told (ap (λ n. responding n (answer.refused (fault_number c.in-Bad.fault))) c.with_receiver-tool.ensures ∙ e))
-
-pub returns-in-Good : goal.returns-in-Good
-returns-in-Good c = told_no_frame c.args.self c.gap-received.result (follows (goal.at.returns-in-Good c).After-gap-received) _ c.in-Good.is
+    rw (passed (goal.at.returns-in-Bad c).Else-not-sound) ((rw c.into.ensures at c.answering-in-Bad.ensures) ∙ ap told e)
 
 pub returns-in-Refused : goal.returns-in-Refused
 returns-in-Refused c = absurd ((rule (goal.at.returns-in-Refused c).After-gap-received).unbroken (sym (ap (λ (r : Response). r.answer) c.gap-received.ensures) ∙ ap answer_of_event c.in-Refused.is))

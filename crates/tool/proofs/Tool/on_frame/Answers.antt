@@ -7,7 +7,3 @@ use Rattle.tool.proofs.Tool.on_frame.Goals as goal
 pub returns-then-not-expected : goal.returns-then-not-expected
 unfolding on_frame
 returns-then-not-expected c = rw (sym c.expected.ensures ∙ c.if-not-expected.true) (gives_nothing _ _ _ _ c.hearing.ensures)
-
-pub returns : goal.returns
-unfolding on_frame
-returns c = rw (sym c.expected.ensures ∙ c.if-not-expected.false, ← c.reply_of.ensures, ← c.turn_on-turn.ensures) c.perform.ensures

@@ -4,24 +4,24 @@ use Rattle.tool.proofs.Gives.{gives_nothing, Gives-finished}
 use Rattle.tool.specs.Replies.{performed}
 use Rattle.tool.proofs.Tool.perform.Goals as goal
 
-pub returns-in-Drop : goal.returns-in-Drop
+pub returns-in-Ok-Drop : goal.returns-in-Ok-Drop
 unfolding performed
-returns-in-Drop c = rw c.in-Drop.is (gives_nothing _ _ _ _ c.hearing.ensures)
+returns-in-Ok-Drop c = rw (c.in-Ok-Drop.is, rw c.in-Ok-Drop.is at c.in-Ok-Drop.field-0-is) (gives_nothing _ _ _ _ c.hearing.ensures)
 
-pub returns-in-Read : goal.returns-in-Read
+pub returns-in-Ok-Read : goal.returns-in-Ok-Read
 unfolding performed
-returns-in-Read c = let a = c.args in
-    rw c.in-Read.is (Gives-finished a.self a.«data».now _ _ (rw c.padded_contents.ensures at c.finished.ensures))
+returns-in-Ok-Read c = let a = c.args in
+    rw (c.in-Ok-Read.is, rw c.in-Ok-Read.is at c.in-Ok-Read.field-0-is) (Gives-finished a.self a.«data».now _ _ (rw c.padded_contents.ensures at c.finished.ensures))
 
-pub returns-in-End : goal.returns-in-End
+pub returns-in-Ok-End : goal.returns-in-Ok-End
 unfolding performed
-returns-in-End c = let a = c.args in
-    rw c.in-End.is (Gives-finished a.self [] _ _ (rw c.padded_contents-in-End.ensures at c.finished-in-End.ensures))
+returns-in-Ok-End c = let a = c.args in
+    rw (c.in-Ok-End.is, rw c.in-Ok-End.is at c.in-Ok-End.field-0-is) (Gives-finished a.self [] _ _ (rw c.padded_contents-in-Ok-End.ensures at c.finished-in-Ok-End.ensures))
 
-pub returns-in-Fail : goal.returns-in-Fail
+pub returns-in-Ok-Authenticate : goal.returns-in-Ok-Authenticate
 unfolding performed
-returns-in-Fail c = rw c.in-Fail.is (gives_nothing _ _ _ _ c.over.ensures)
+returns-in-Ok-Authenticate c = rw (c.in-Ok-Authenticate.is, rw c.in-Ok-Authenticate.is at c.in-Ok-Authenticate.field-0-is) c.authenticating.ensures
 
-pub returns-in-Authenticate : goal.returns-in-Authenticate
+pub returns-in-Err : goal.returns-in-Err
 unfolding performed
-returns-in-Authenticate c = rw c.in-Authenticate.is c.authenticating.ensures
+returns-in-Err c = rw c.in-Err.is (gives_nothing _ _ _ _ c.over.ensures)

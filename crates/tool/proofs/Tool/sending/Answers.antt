@@ -2,9 +2,5 @@
 use Rattle.tool.proofs.Admission.{limit_within}
 use Rattle.tool.proofs.Tool.sending.Goals as goal
 
-pub send-sent-requires : goal.send-sent-requires
-send-sent-requires c = (c.requires.0, rw c.sent_command.ensures (limit_within c.args.arguments.request _ c.requires.1))
-
-pub returns : goal.returns
-returns c = let sent = rw (c.fields.ensures, c.sent_command.ensures) at c.send-sent.ensures in
-    record { answer = rw (c.answer_to.ensures, c.asked-next.ensures, c.wake_before-wake.ensures, sent.octets); buffer = sent.buffer }
+pub send-requires : goal.send-requires
+send-requires c = rw c.sent_command-command.ensures (limit_within c.args.arguments.now.request _ c.requires)

@@ -12,17 +12,17 @@ use Rattle.receiver.specs.Receiver.{Response, reception_of, holding}
 use Rattle.receiver.specs.Receiving.{on_session_end}
 use mathlib.Core.Bool.{true}
 use mathlib.Core.Path.{◌≡◌, sym, ap, ◌∙◌}
-use Rattle.tool.proofs.Tool.session_end.Goals.{After-session_end-received, Else-not-sound}
+use Rattle.tool.proofs.Tool.session_end.Goals.{After-session_end, Else-not-sound}
 use Rattle.tool.proofs.Tool.session_end.Goals as goal
 
 passed : (c : Else-not-sound) → sound c.args.self ≡ true
 passed c = sym c.sound.ensures ∙ c.if-not-sound.false
 
-emptied : (c : After-session_end-received) → c.session_end-received.result.receiver ≡ holding (on_session_end (reception_of c.args.self.receiver)).next c.args.self.receiver
+emptied : (c : After-session_end) → c.session_end.result.receiver ≡ holding (on_session_end (reception_of c.args.self.receiver)).next c.args.self.receiver
 emptied c =
     let a = c in
-    let f = session_end_follows a.args.self.receiver (test_sound a.args.self (passed (goal.at.After-session_end-received c).Else-not-sound)).receiver (receiver_length a.args.self _ a.well_formed.0) in
-    ap (λ (r : Response). r.receiver) (c.session_end-received.ensures ∙ f.answer)
+    let f = session_end_follows a.args.self.receiver (test_sound a.args.self (passed (goal.at.After-session_end c).Else-not-sound)).receiver (receiver_length a.args.self _ a.well_formed.0) in
+    ap (λ (r : Response). r.receiver) (c.session_end.ensures ∙ f.answer)
 
 pub returns-then-not-sound : goal.returns-then-not-sound
 unfolding after_session_end
@@ -31,9 +31,9 @@ returns-then-not-sound c = rw (sym c.sound.ensures ∙ c.if-not-sound.true) c.an
 pub returns-then-idle : goal.returns-then-idle
 unfolding after_session_end
 returns-then-idle c = rw (passed (goal.at.returns-then-idle c).Else-not-sound, sym c.idle.ensures ∙ c.if-idle.true)
-    (c.answering-then-idle.ensures ∙ ap (λ n. told (responding n (given nothing))) (c.with_receiver-tool.ensures ∙ ap (λ r. with_receiver r c.args.self) (emptied (goal.at.returns-then-idle c).After-session_end-received)))
+    (c.answering-then-idle.ensures ∙ ap (λ r. told (responding (with_receiver r c.args.self) (given nothing))) (emptied (goal.at.returns-then-idle c).After-session_end))
 
 pub returns : goal.returns
 unfolding after_session_end
 returns c = rw (passed (goal.at.returns c).Else-not-sound, sym c.idle.ensures ∙ c.if-idle.false)
-    (c.answering-2.ensures ∙ ap (λ n. told (responding n (refused session_ended))) (c.ended-over.ensures ∙ ap ended (c.with_receiver-tool.ensures ∙ ap (λ r. with_receiver r c.args.self) (emptied (goal.at.returns c).After-session_end-received))))
+    (c.answering-2.ensures ∙ ap (λ n. told (responding n (refused session_ended))) (c.ended.ensures ∙ ap (λ r. ended (with_receiver r c.args.self)) (emptied (goal.at.returns c).After-session_end)))

@@ -10,4 +10,4 @@ pub returns : goal.returns
 unfolding octet_outcome after
 returns c = let a = c.args in
     octet_given (λ t. after_octet t a.octet (length a.frame.now)) _ _ _ _ _ _ _ _ _ _ _ _ _ _ _
-    c.decode-tool.ensures c.octet-heard.ensures c.settle.ensures
+    c.decode.ensures c.octet-heard.ensures c.settle.ensures

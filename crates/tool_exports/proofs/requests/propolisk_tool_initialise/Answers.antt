@@ -10,4 +10,4 @@ pub returns : goal.returns
 unfolding request_outcome after
 returns c = let a = c.args in
     request_given (λ t. after_asking t (initialising a.ads.now a.adp) (length a.frame.now)) _ _ _ _ _ _ _ _ _ _ _ _ _
-    c.decode-tool.ensures c.initialise-requested.ensures c.settle.ensures
+    c.decode.ensures c.initialise-requested.ensures c.settle.ensures

@@ -10,4 +10,4 @@ pub returns : goal.returns
 unfolding request_outcome after
 returns c = let a = c.args in
     request_given (λ t. after_asking t (programming a.ads.now a.adp a.tab a.«data».now a.key.now a.na1.now) (length a.frame.now)) _ _ _ _ _ _ _ _ _ _ _ _ _
-    c.decode-tool.ensures c.program-requested.ensures c.settle.ensures
+    c.decode.ensures c.program-requested.ensures c.settle.ensures

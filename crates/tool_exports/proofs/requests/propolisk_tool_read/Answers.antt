@@ -10,4 +10,4 @@ pub returns : goal.returns
 unfolding request_outcome after
 returns c = let a = c.args in
     request_given (λ t. after_asking t (reading a.ads.now a.adp a.tab) (length a.frame.now)) _ _ _ _ _ _ _ _ _ _ _ _ _
-    c.decode-tool.ensures c.read-requested.ensures c.settle.ensures
+    c.decode.ensures c.read-requested.ensures c.settle.ensures

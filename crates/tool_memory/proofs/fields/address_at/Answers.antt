@@ -1,7 +1,0 @@
--- `address_at` is a part in an array.
-use Rattle.receiver_memory.specs.Fields.{field_at}
-use Rattle.tool_memory.proofs.fields.address_at.Goals as goal
-
-pub returns : goal.returns
-unfolding field_at
-returns c = rw (c.six.ensures, c.part.ensures)

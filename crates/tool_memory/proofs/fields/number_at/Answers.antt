@@ -1,7 +1,0 @@
--- `number_at` is a part in an array.
-use Rattle.receiver_memory.specs.Fields.{field_at}
-use Rattle.tool_memory.proofs.fields.number_at.Goals as goal
-
-pub returns : goal.returns
-unfolding field_at
-returns c = rw (c.eight.ensures, c.part.ensures)
