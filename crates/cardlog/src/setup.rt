@@ -1,6 +1,4 @@
 // The setup at the front of the input: the address, the key and the records, each after an octet that says how many there are.
-ghost use Rattle.std.specs.Prelude.{◌<◌, ◌≤◌};
-
 use card::{Answered, Card};
 use numbers::{Characters, Octets};
 use records::sizes::MOST_OCTETS;
@@ -11,77 +9,65 @@ const STORAGE_AT: usize = 6;
 
 const ENTRY_SIZE: usize = STORAGE_AT + MOST_OCTETS;
 
-// Where the key, the records and the calls begin; the octet before the key is its length, that before the records their count.
+// The count of the records may be over what a card has; the entries are those of the first of them.
 #[derive(Clone, Copy)]
-pub(crate) struct Offsets {
-    pub(crate) key: usize,
-    pub(crate) records: usize,
-    pub(crate) calls: usize,
+pub(crate) struct Setup<'a> {
+    address: &'a [u8],
+    key: &'a [u8],
+    count: usize,
+    entries: &'a [u8],
 }
 
-pub(crate) fn read_offsets(s: &[u8]) -> Offsets
-    ensures { (0 < result.key) × ((0 < result.records) × (result.records ≤ 513)) }
-{
-    let address_length = octets::octet(s, 0) as usize;
-    let key = address_length + 2;
-    let key_length = octets::octet(s, key - 1) as usize;
-    let records = key + key_length + 1;
-    let count = octets::octet(s, records - 1) as usize;
-    let calls = records + ENTRY_SIZE * in_use(count);
-    Offsets {
-        key: key,
-        records: records,
-        calls: calls,
+// The setup, and the calls after it; none where the input ends inside the setup.
+pub(crate) fn read_setup(input: &[u8]) -> Option<(Setup<'_>, &[u8])> {
+    let (address, rest) = counted(input)?;
+    let (key, rest) = counted(rest)?;
+    let (count, rest) = rest.split_first()?;
+    let count = usize::from(*count);
+    let (entries, calls) = rest.split_at_checked(ENTRY_SIZE * in_use(count))?;
+    let setup = Setup {
+        address,
+        key,
+        count,
+        entries,
+    };
+    Some((setup, calls))
+}
+
+// As many octets as the first one says, and those after them.
+fn counted(s: &[u8]) -> Option<(&[u8], &[u8])> {
+    let (count, rest) = s.split_first()?;
+    rest.split_at_checked(usize::from(*count))
+}
+
+impl Setup<'_> {
+    // What setup gives for the address, the key and the records of the input.
+    pub(crate) fn played(self) -> Answered {
+        Card::setup(self.address, self.key, self.records())
+    }
+
+    fn records(self) -> Records {
+        let mut records = Records::empty();
+        records.count = self.count;
+        for (record, entry) in records
+            .each
+            .iter_mut()
+            .zip(self.entries.chunks_exact(ENTRY_SIZE))
+        {
+            *record = read_record(entry);
+        }
+        records
     }
 }
 
-// What setup gives for the address, the key and the records of the input.
-pub(crate) fn played(s: &[u8], offsets: Offsets) -> Answered
-    requires { (0 < offsets.key) × ((0 < offsets.records) × (offsets.records ≤ 513)) }
-{
-    let key = offsets.key;
-    let records = offsets.records;
-    let all = read_records(s, records);
-    Card::setup(
-        octets::part(s, 1, key - 1),
-        octets::part(s, key, records - 1),
-        all,
-    )
-}
-
-// The records from an offset on, and their count before it.
-fn read_records(s: &[u8], from: usize) -> Records
-    requires { (0 < from) × (from ≤ 513) }
-{
-    let count = octets::octet(s, from - 1) as usize;
-    let n = in_use(count);
-    let mut all = Records::empty();
-    let mut i = 0;
-    while i < n {
-        let at = from + ENTRY_SIZE * i;
-        let record = read_record(octets::part(s, at, at + ENTRY_SIZE));
-        all.each[i] = record;
-        i += 1;
-    }
-    all.count = count;
-    all
-}
-
-fn read_record(s: &[u8]) -> Record {
-    let attributes = read_attributes(s);
-    let length = octets::octet(s, 5) as usize;
-    let storage = read_storage(octets::part(s, STORAGE_AT, ENTRY_SIZE));
-    Record {
-        attributes: attributes,
-        length: Octets(length),
-        storage: storage,
-    }
-}
-
-fn read_storage(data: &[u8]) -> [u8; MOST_OCTETS] {
+fn read_record(entry: &[u8]) -> Record {
     let mut storage = [0u8; MOST_OCTETS];
-    octets::put(&mut storage, 0, data);
-    storage
+    octets::put(&mut storage, 0, octets::part(entry, STORAGE_AT, ENTRY_SIZE));
+    Record {
+        attributes: read_attributes(entry),
+        length: Octets(usize::from(octets::octet(entry, 5))),
+        storage,
+    }
 }
 
 fn read_attributes(s: &[u8]) -> Attributes {
@@ -91,15 +77,16 @@ fn read_attributes(s: &[u8]) -> Attributes {
         tab: octets::octet(s, 0),
         kind: read_kind(kind, octets::octet(s, 3)),
         limit: read_limit(kind, octets::octet(s, 2)),
-        readable: marks % 2 == 1,
-        programming: marks / 2 % 2 == 1,
-        transfer: marks / 4 % 2 == 1,
+        readable: marks & 1 != 0,
+        programming: marks & 2 != 0,
+        transfer: marks & 4 != 0,
     }
 }
 
+// The kind is an octet of the input, which stays as it is.
 fn read_kind(kind: u8, characters: u8) -> Kind {
     if kind == 1 {
-        Kind::Label(Characters(characters as usize))
+        Kind::Label(Characters(usize::from(characters)))
     } else {
         Kind::Raw
     }
@@ -107,9 +94,5 @@ fn read_kind(kind: u8, characters: u8) -> Kind {
 
 // A kind that is not known breaks the same rule as a limit over the most, which stands for it.
 fn read_limit(kind: u8, limit: u8) -> Octets {
-    if kind < 2 {
-        Octets(limit as usize)
-    } else {
-        Octets(255)
-    }
+    Octets(usize::from(if kind < 2 { limit } else { 255 }))
 }

@@ -1,7 +1,7 @@
 // The load curve that the flat's logger keeps: the meter's index in Wh at every half hour of the last day.
 use crate::gather::Gathered;
 use crate::stations::FLAT;
-use printing::{print_octets, print_record};
+use printing::print_record;
 use std::io;
 use swap::Kind;
 
@@ -9,31 +9,26 @@ const TAB: u8 = 0x03;
 
 const HALF_HOURS: usize = 48;
 
-// Three octets for every half hour.
-const OCTETS: usize = 144;
-
 // The index at the first half hour, and how much it rises in each; at the last it is the one that the card holds.
-const FIRST_INDEX: usize = 88250;
+const FIRST_INDEX: u32 = 88250;
 
-const RISE: usize = 250;
+const RISE: u32 = 250;
 
 // The curve goes into the file as a long record, for no record of a card has room for it.
 pub(crate) fn log(rt: &impl Print, gathered: Gathered) -> io::Result<Gathered> {
-    let curve = indexes();
-    print_octets(rt, b"curve TAB ", &[TAB])?;
-    print_record(rt, b" ", Kind::Long, &curve, b"\n")?;
-    Ok(gathered.with(FLAT, TAB, Kind::Long, &curve))
+    let indexes = indexes();
+    let curve = indexes.as_flattened();
+    print!(rt; "curve TAB {TAB:02X}")?;
+    print_record(rt, b" ", Kind::Long, curve, b"\n")?;
+    Ok(gathered.with(FLAT, TAB, Kind::Long, curve))
 }
 
-fn indexes() -> [u8; OCTETS] {
-    let mut octets = [0u8; OCTETS];
-    let mut i = 0;
-    while i < HALF_HOURS {
-        let index = FIRST_INDEX + RISE * i;
-        octets[3 * i] = (index / 65536 % 256) as u8;
-        octets[3 * i + 1] = (index / 256 % 256) as u8;
-        octets[3 * i + 2] = (index % 256) as u8;
-        i += 1;
+// Three octets for every half hour.
+fn indexes() -> [[u8; 3]; HALF_HOURS] {
+    let mut octets = [[0u8; 3]; HALF_HOURS];
+    for i in 0..HALF_HOURS {
+        let [_, high, middle, low] = (FIRST_INDEX + RISE * i as u32).to_be_bytes();
+        octets[i] = [high, middle, low];
     }
     octets
 }

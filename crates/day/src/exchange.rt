@@ -1,8 +1,9 @@
 // A request from its first frame to its end, between the tool and the cards of the block.
 use crate::primary::{Primary, Stage};
-use crate::wire::{Damage, cards_hear, cards_leave};
+use crate::wire::{cards_hear, cards_leave};
 use card::Card;
 use std::io;
+use tool::{Requested, Tool};
 
 #[derive(Clone, Copy)]
 pub(crate) struct Bus {
@@ -11,66 +12,52 @@ pub(crate) struct Bus {
 }
 
 impl Bus {
-    // The tool asks for a record.
-    pub(crate) fn reading(self, rt: &impl Print, ads: [u8; 6], tab: u8) -> io::Result<Bus> {
-        let cards = self.cards;
-        let primary = self.primary;
-        Ok(Bus {
-            cards: cards,
-            primary: primary.read(rt, ads, tab)?,
-        })
-    }
-
-    // The tool asks to write a record.
-    pub(crate) fn programming(
+    // The tool makes a request.
+    pub(crate) fn asking<F: FnOnce(Tool, u8, &mut [u8]) -> Requested>(
         self,
         rt: &impl Print,
-        ads: [u8; 6],
-        tab: u8,
-        data: &[u8],
-        key: [u8; 8],
-    ) -> io::Result<Bus> {
-        let cards = self.cards;
-        let primary = self.primary;
+        request: F,
+    ) -> io::Result<Bus>
+        requires { F.IsAlwaysCallable request }
+    {
         Ok(Bus {
-            cards: cards,
-            primary: primary.program(rt, ads, tab, data, key)?,
+            primary: self.primary.asks(rt, request)?,
+            ..self
         })
     }
 }
 
-// The frame that the tool sends, and the reply to it as it arrives, which the tool and the other cards hear.
-fn round(rt: &impl Print, bus: Bus, damage: Damage) -> io::Result<Bus> {
-    let cards = bus.cards;
-    let primary = bus.primary;
-    let sent = primary.sent;
+// The frame that the tool sends, and the reply to it as it arrives, which the tool and the other cards hear. The octet of the reply at an offset may be damaged.
+fn round(rt: &impl Print, bus: Bus, damage: Option<usize>) -> io::Result<Bus> {
+    let Stage::Speaking(sent) = bus.primary.stage else {
+        return Ok(bus);
+    };
     sent.print(rt, b"tool  ")?;
-    let heard = cards_hear(rt, cards, sent)?;
-    let each = heard.each;
-    let reply = heard.reply;
+    let heard = cards_hear(rt, bus.cards, &sent)?;
+    let Some(reply) = heard.reply else {
+        return Ok(Bus {
+            cards: heard.each,
+            primary: bus.primary.waiting(),
+        });
+    };
     reply.print(rt, b"card  ")?;
     let arrived = reply.damaged(rt, damage)?;
-    let others = cards_hear(rt, each, arrived)?;
-    let last = others.each;
+    let others = cards_hear(rt, heard.each, &arrived)?;
     Ok(Bus {
-        cards: last,
-        primary: primary.hears(rt, arrived)?,
+        cards: others.each,
+        primary: bus.primary.hears(rt, &arrived)?,
     })
 }
 
 // One frame and its reply, then, for programming, AUT and its reply. Where a reply is still awaited, the hosts report a session end.
-pub(crate) fn exchange(rt: &impl Print, bus: Bus, damage: Damage) -> io::Result<Bus> {
+pub(crate) fn exchange(rt: &impl Print, bus: Bus, damage: Option<usize>) -> io::Result<Bus> {
     let first = round(rt, bus, damage)?;
-    let cards = first.cards;
-    let heard = first.primary;
-    let stage = heard.stage;
-    match stage {
-        Stage::Speaking => round(rt, first, Damage::None),
+    match first.primary.stage {
+        Stage::Speaking(_) => round(rt, first, None),
         Stage::Waiting => Ok(Bus {
-            cards: cards_leave(cards),
-            primary: heard.leaves(rt)?,
+            cards: cards_leave(first.cards),
+            primary: first.primary.leaves(rt)?,
         }),
-        Stage::Done => Ok(first),
-        Stage::Refused => Ok(first),
+        Stage::Done(_) | Stage::Refused => Ok(first),
     }
 }

@@ -3,17 +3,18 @@ use crate::exchange::{Bus, exchange};
 use crate::gather::Gathered;
 use crate::primary::{Primary, Stage};
 use crate::stations::{FLAT, FLAT_KEY, address, is_label, new_room};
-use crate::wire::Damage;
-use printing::{print, print_number, print_octets, print_record};
+use printing::print_record;
 use std::io;
-use swap::{Cursor, Entry, Kind, Next, Started, next_for, next_to_program};
-use tool::Contents;
-
-// An index that no reading has.
-pub(crate) const UNDAMAGED: usize = 255;
+use swap::{Cursor, Entry, Kind, next_for, next_to_program};
 
 // A key that the fitter types wrong.
 const WRONG_KEY: [u8; 8] = [0x0E, 0x32, 0x92, 0x32, 0xEA, 0x6D, 0x0D, 0x73];
+
+// The number NA1 of every programming request. It is fixed, so that every day prints the same; a real host lends a fresh one that nobody can guess.
+const NA1: [u8; 8] = [0x01, 0x23, 0x45, 0x67, 0x89, 0xAB, 0xCD, 0xEF];
+
+// The octet of a reply that is damaged.
+const DAMAGED_AT: usize = 10;
 
 // The bus after readings, and the records that were read.
 #[derive(Clone, Copy)]
@@ -22,38 +23,25 @@ pub(crate) struct Readings {
     pub(crate) gathered: Gathered,
 }
 
-// Reads records, each named by the last octet of its station's address and by its TAB. The reply to the reading with this index is damaged on the wire.
+// Reads records, each named by the last octet of its station's address and by its TAB. The reply to the reading with an index may be damaged on the wire.
 pub(crate) fn read_all(
     rt: &impl Print,
     readings: Readings,
-    polls: &[u8],
-    damaged: usize,
+    polls: &[(u8, u8)],
+    damaged: Option<usize>,
 ) -> io::Result<Readings> {
-    let mut bus = readings.bus;
-    let mut gathered = readings.gathered;
-    let mut i = 0;
-    while i < polls.len() / 2 {
-        let ads = address(polls[2 * i]);
-        let tab = polls[2 * i + 1];
-        let damage = damage_at(i, damaged);
-        i += 1;
-        bus = exchange(rt, bus.reading(rt, ads, tab)?, damage)?;
-        let heard = bus.primary;
-        gathered = taken(rt, gathered, ads, tab, heard)?;
+    let Readings {
+        mut bus,
+        mut gathered,
+    } = readings;
+    for (i, &(last, tab)) in polls.iter().enumerate() {
+        let ads = address(last);
+        let damage = damaged.filter(|&index| index == i).map(|_| DAMAGED_AT);
+        let asked = bus.asking(rt, |tool, adp, frame| tool.read(&ads, adp, tab, frame))?;
+        bus = exchange(rt, asked, damage)?;
+        gathered = taken(rt, gathered, ads, tab, bus.primary)?;
     }
-    Ok(Readings {
-        bus: bus,
-        gathered: gathered,
-    })
-}
-
-// The octet at offset 10 is damaged in the reply with this index.
-fn damage_at(index: usize, damaged: usize) -> Damage {
-    if index == damaged {
-        Damage::At(10)
-    } else {
-        Damage::None
-    }
+    Ok(Readings { bus, gathered })
 }
 
 // One record more, if it was read.
@@ -64,13 +52,14 @@ fn taken(
     tab: u8,
     primary: Primary,
 ) -> io::Result<Gathered> {
-    let stage = primary.stage;
-    let Stage::Done = stage else {
+    let Stage::Done(contents) = primary.stage else {
         return Ok(gathered);
     };
-    let contents = primary.contents;
-    print_read(rt, tab, contents)?;
-    Ok(gathered.with_read(ads, tab, kind_of(tab), contents))
+    let kind = kind_of(tab);
+    print!(rt; "read  TAB {tab:02X}")?;
+    let data = octets::part(&contents.octets, 0, contents.length.0);
+    print_record(rt, b" ", kind, data, b"\n")?;
+    Ok(gathered.with_read(ads, tab, kind, contents))
 }
 
 fn kind_of(tab: u8) -> Kind {
@@ -81,135 +70,82 @@ fn kind_of(tab: u8) -> Kind {
     }
 }
 
-fn print_read(rt: &impl Print, tab: u8, contents: Contents) -> io::Result<()> {
-    let octets = contents.octets;
-    let length = contents.length;
-    let data = octets::part(&octets, 0, length.0);
-    print_octets(rt, b"read  TAB ", &[tab])?;
-    print_record(rt, b" ", kind_of(tab), data, b"\n")
-}
-
 // Programs the flat's new card from the file's records for it, one after the other; load curves are passed over. The holder's label is tried with a wrong key first.
-pub(crate) fn program_all(rt: &impl Print, bus: Bus, file: &[u8]) -> io::Result<Bus> {
-    let mut now = bus;
-    let Started::First(first) = swap::cursor::start(file) else {
-        return Ok(now);
+pub(crate) fn program_all(rt: &impl Print, mut bus: Bus, file: &[u8]) -> io::Result<Bus> {
+    let Ok(mut cursor) = swap::cursor::start(file) else {
+        return Ok(bus);
     };
-    let mut cursor = first;
-    let records = first.left;
-    let mut left = records.0;
-    while 0 < left {
-        let next = next_to_program(cursor, file, FLAT);
-        let Next::Record(entry, after) = next else {
-            return Ok(now);
-        };
-        now = program_entry(rt, now, entry.tab, fitted(rt, file, entry)?)?;
+    while let Ok(Some((entry, after))) = next_to_program(cursor, file, FLAT) {
+        bus = program_entry(rt, bus, entry.tab, fitted(rt, file, entry)?)?;
         cursor = after;
-        left -= 1;
     }
-    Ok(now)
+    Ok(bus)
 }
 
 fn program_entry(rt: &impl Print, bus: Bus, tab: u8, data: &[u8]) -> io::Result<Bus> {
-    if tab == 0x0A {
-        let refused = program(rt, bus, tab, data, WRONG_KEY)?;
-        return program(rt, refused, tab, data, FLAT_KEY);
-    }
+    let bus = if tab == 0x0A {
+        program(rt, bus, tab, data, WRONG_KEY)?
+    } else {
+        bus
+    };
     program(rt, bus, tab, data, FLAT_KEY)
 }
 
 fn program(rt: &impl Print, bus: Bus, tab: u8, data: &[u8], key: [u8; 8]) -> io::Result<Bus> {
-    let asked = bus.programming(rt, FLAT, tab, data, key)?;
-    let next = exchange(rt, asked, Damage::None)?;
-    let heard = next.primary;
-    let stage = heard.stage;
-    print_programmed(rt, tab, stage)?;
-    Ok(next)
-}
-
-fn print_programmed(rt: &impl Print, tab: u8, stage: Stage) -> io::Result<()> {
-    if let Stage::Done = stage {
-        print_octets(rt, b"done  TAB ", &[tab])?;
-        print(rt, b" programmed\n")?;
+    let asked = bus.asking(rt, |tool, adp, frame| {
+        tool.program(&FLAT, adp, tab, data, &key, &NA1, frame)
+    })?;
+    let next = exchange(rt, asked, None)?;
+    if let Stage::Done(_) = next.primary.stage {
+        println!(rt; "done  TAB {tab:02X} programmed")?;
     }
-    Ok(())
+    Ok(next)
 }
 
 // A record's data; a label is cut to the limits of its new record.
 fn fitted<'a>(rt: &impl Print, file: &'a [u8], entry: Entry) -> io::Result<&'a [u8]> {
     let data = swap::cursor::content(file, entry);
-    let kind = entry.kind;
-    let Kind::Label = kind else {
+    let Kind::Label = entry.kind else {
         return Ok(data);
     };
     let room = new_room(entry.tab);
-    let octets = room.octets;
-    let characters = room.characters;
-    let kept = label::kept(data, octets, characters);
-    print_fit(rt, entry.tab, data, kept)?;
+    let kept = label::kept(data, room.octets, room.characters);
+    print!(rt; "fit   TAB {:02X}", entry.tab)?;
+    print_record(rt, b" ", Kind::Label, data, b" within ")?;
+    print!(rt; "{} and {}", room.octets.0, room.characters.0)?;
+    print_record(rt, b": ", Kind::Label, kept, b"\n")?;
     Ok(kept)
-}
-
-fn print_fit(rt: &impl Print, tab: u8, old: &[u8], kept: &[u8]) -> io::Result<()> {
-    print_octets(rt, b"fit   TAB ", &[tab])?;
-    print_record(rt, b" ", Kind::Label, old, b" within ")?;
-    print_room(rt, tab)?;
-    print_record(rt, b": ", Kind::Label, kept, b"\n")
-}
-
-fn print_room(rt: &impl Print, tab: u8) -> io::Result<()> {
-    let room = new_room(tab);
-    let octets = room.octets;
-    let characters = room.characters;
-    print_number(rt, b"", octets.0)?;
-    print_number(rt, b" and ", characters.0)
 }
 
 // The flat's records of two files side by side.
 pub(crate) fn compare_files(rt: &impl Print, old: &[u8], new: &[u8]) -> io::Result<()> {
-    let Started::First(old_first) = swap::cursor::start(old) else {
+    let Ok(mut old_cursor) = swap::cursor::start(old) else {
         return Ok(());
     };
-    let Started::First(new_first) = swap::cursor::start(new) else {
+    let Ok(mut new_cursor) = swap::cursor::start(new) else {
         return Ok(());
     };
-    let mut old_cursor = old_first;
-    let mut new_cursor = new_first;
-    let records = old_first.left;
-    let mut left = records.0;
-    while 0 < left {
-        let next = next_for(old_cursor, old, FLAT);
-        let Next::Record(entry, after) = next else {
-            return Ok(());
-        };
-        print_old(rt, old, entry)?;
-        let kind = entry.kind;
-        new_cursor = print_beside(rt, kind, new, new_cursor)?;
+    while let Ok(Some((entry, after))) = next_for(old_cursor, old, FLAT) {
+        print!(rt; "TAB {:02X}", entry.tab)?;
+        let data = swap::cursor::content(old, entry);
+        print_record(rt, b" old ", entry.kind, data, b"   | new ")?;
+        new_cursor = print_beside(rt, entry.kind, new, new_cursor)?;
         old_cursor = after;
-        left -= 1;
     }
     Ok(())
 }
 
-fn print_old(rt: &impl Print, file: &[u8], entry: Entry) -> io::Result<()> {
-    let kind = entry.kind;
-    let data = swap::cursor::content(file, entry);
-    print_octets(rt, b"TAB ", &[entry.tab])?;
-    print_record(rt, b" old ", kind, data, b"   | new ")
-}
-
 // The new card's next record beside an old one of a kind, with the cursor after it; a load curve has none, since it is on no card.
 fn print_beside(rt: &impl Print, kind: Kind, file: &[u8], cursor: Cursor) -> io::Result<Cursor> {
-    if let Kind::Long = kind {
-        print(rt, b"none\n")?;
-        return Ok(cursor);
-    }
-    let next = next_to_program(cursor, file, FLAT);
-    let Next::Record(entry, after) = next else {
-        print(rt, b"none\n")?;
+    let next = match kind {
+        Kind::Long => Ok(None),
+        _ => next_to_program(cursor, file, FLAT),
+    };
+    let Ok(Some((entry, after))) = next else {
+        println!(rt; "none")?;
         return Ok(cursor);
     };
-    let new_kind = entry.kind;
-    print_record(rt, b"", new_kind, swap::cursor::content(file, entry), b"\n")?;
+    let data = swap::cursor::content(file, entry);
+    print_record(rt, b"", entry.kind, data, b"\n")?;
     Ok(after)
 }

@@ -1,147 +1,103 @@
 // The tool at its end of the wire: what it asks, and what it hears.
-use crate::wire::{Sent, TOOL, silence};
-use frame::sizes::MOST_TRANSFERRED;
-use numbers::Octets;
-use printing::{print, print_tool};
+use crate::filled::Filled;
+use crate::wire::{Sent, TOOL};
+use printing::print_tool;
 use std::io;
-use tool::{Answer, Contents, Requested, Tool};
+use tool::{Contents, Progress, Refusal, Requested, Tool, answer_number};
 use wake::Wake;
 
-// The number NA1 of every programming request. It is fixed, so that every day prints the same; a real host lends a fresh one that nobody can guess.
-const NA1: [u8; 8] = [0x01, 0x23, 0x45, 0x67, 0x89, 0xAB, 0xCD, 0xEF];
-
 // How far a request has come: a reply is awaited, a frame is to be sent, or the request has ended.
+// Four states, of which two hold what came.
 #[derive(Clone, Copy)]
 pub(crate) enum Stage {
     Waiting,
-    Speaking,
-    Done,
+    Speaking(Sent),
+    Done(Contents),
     Refused,
 }
 
-// A tool with its ADP, how far its request has come, the frame that it sends, and the contents that it has read.
+// A tool with its ADP, and how far its request has come.
 #[derive(Clone, Copy)]
 pub(crate) struct Primary {
     pub(crate) tool: Tool,
     pub(crate) adp: u8,
     pub(crate) stage: Stage,
-    pub(crate) sent: Sent,
-    pub(crate) contents: Contents,
-}
-
-fn no_contents() -> Contents {
-    Contents {
-        octets: [0u8; MOST_TRANSFERRED],
-        length: Octets(0),
-    }
-}
-
-// A bad frame (1 to 5) is dropped, and the wait goes on.
-fn stage_after(before: Stage, answer: Answer) -> Stage {
-    match answer {
-        Answer::Nothing => before,
-        Answer::Sent => Stage::Speaking,
-        Answer::Done => Stage::Done,
-        Answer::Refused(refusal) => {
-            if refusal.number() < 6 {
-                before
-            } else {
-                Stage::Refused
-            }
-        }
-    }
-}
-
-// A tool that has heard nothing yet since it spoke.
-pub(crate) fn listening(tool: Tool, adp: u8) -> Primary {
-    Primary {
-        tool: tool,
-        adp: adp,
-        stage: Stage::Waiting,
-        sent: silence(),
-        contents: no_contents(),
-    }
-}
-
-// The tool after a request: its wake-up, and its frame to be sent.
-fn asked(rt: &impl Print, requested: Requested, adp: u8, frame: [u8; 128]) -> io::Result<Primary> {
-    let wake = requested.wake;
-    if let Wake::Agn = wake {
-        print(rt, b"wake  AGN\n")?;
-    }
-    let answer = requested.answer;
-    print_tool(rt, answer.number())?;
-    let tool = requested.tool;
-    let length = requested.frame;
-    let mut next = listening(tool, adp);
-    let sent = next.sent;
-    let spoken = sent.or(frame, length.0, TOOL);
-    next.sent = spoken;
-    Ok(next)
 }
 
 impl Primary {
-    pub(crate) fn read(self, rt: &impl Print, ads: [u8; 6], tab: u8) -> io::Result<Primary> {
-        let tool = self.tool;
-        let mut frame = [0u8; 128];
-        let requested = tool.read(&ads, self.adp, tab, &mut frame);
-        asked(rt, requested, self.adp, frame)
+    // A tool that has heard nothing yet since it spoke.
+    pub(crate) fn listening(tool: Tool, adp: u8) -> Primary {
+        Primary {
+            tool,
+            adp,
+            stage: Stage::Waiting,
+        }
     }
 
-    pub(crate) fn program(
+    // The same tool, with nothing heard.
+    pub(crate) fn waiting(self) -> Primary {
+        Primary::listening(self.tool, self.adp)
+    }
+
+    // The tool after a request, which is what it gives for its ADP and a buffer: its wake-up, and its frame to be sent.
+    pub(crate) fn asks<F: FnOnce(Tool, u8, &mut [u8]) -> Requested>(
         self,
         rt: &impl Print,
-        ads: [u8; 6],
-        tab: u8,
-        data: &[u8],
-        key: [u8; 8],
-    ) -> io::Result<Primary> {
-        let tool = self.tool;
-        let mut frame = [0u8; 128];
-        let requested = tool.program(&ads, self.adp, tab, data, &key, &NA1, &mut frame);
-        asked(rt, requested, self.adp, frame)
+        request: F,
+    ) -> io::Result<Primary>
+        requires { F.IsAlwaysCallable request }
+    {
+        let mut array = [0u8; 128];
+        let requested = request(self.tool, self.adp, &mut array);
+        if let Wake::Agn = requested.wake {
+            println!(rt; "wake  AGN")?;
+        }
+        print_tool(rt, answer_number(requested.answer))?;
+        let frame = Filled {
+            array,
+            length: requested.frame.0,
+        };
+        Ok(Primary {
+            tool: requested.tool,
+            stage: Sent::from(TOOL, frame).map_or(Stage::Waiting, Stage::Speaking),
+            ..self
+        })
     }
 
-    pub(crate) fn hears(self, rt: &impl Print, sent: Sent) -> io::Result<Primary> {
-        let octets = sent.octets;
-        let frame = octets::part(&octets, 0, sent.length);
-        let tool = self.tool;
-        let mut now = listening(tool, self.adp);
-        let mut i = 0;
-        while i < frame.len() {
-            now = now.hears_octet(rt, frame[i])?;
-            i += 1;
+    pub(crate) fn hears(self, rt: &impl Print, sent: &Sent) -> io::Result<Primary> {
+        let mut now = self.waiting();
+        for &octet in sent.frame.octets() {
+            now = now.hears_octet(rt, octet)?;
         }
         Ok(now)
     }
 
+    // A bad frame is dropped, and the wait goes on.
     fn hears_octet(self, rt: &impl Print, octet: u8) -> io::Result<Primary> {
-        let tool = self.tool;
-        let mut buffer = [0u8; 128];
-        let heard = tool.octet(octet, &mut buffer);
-        let next = heard.tool;
-        let answer = heard.answer;
-        print_tool(rt, answer.number())?;
-        let contents = heard.contents;
-        let frame = heard.frame;
-        let stage = self.stage;
-        let sent = self.sent;
+        let mut array = [0u8; 128];
+        let heard = self.tool.octet(octet, &mut array);
+        print_tool(rt, answer_number(heard.answer))?;
+        let frame = Filled {
+            array,
+            length: heard.frame.0,
+        };
+        let stage = match heard.answer {
+            Ok(Progress::Nothing) | Err(Refusal::BadFrame(_)) => self.stage,
+            Ok(Progress::Sent) => Stage::Speaking(Sent { frame, place: TOOL }),
+            Ok(Progress::Done) => Stage::Done(heard.contents),
+            Err(_) => Stage::Refused,
+        };
         Ok(Primary {
-            tool: next,
-            adp: self.adp,
-            stage: stage_after(stage, answer),
-            sent: sent.or(buffer, frame.0, TOOL),
-            contents: contents,
+            tool: heard.tool,
+            stage,
+            ..self
         })
     }
 
     // Nothing more comes: the tool's host reports a session end.
     pub(crate) fn leaves(self, rt: &impl Print) -> io::Result<Primary> {
-        let tool = self.tool;
-        let told = tool.session_end();
-        let answer = told.answer;
-        print_tool(rt, answer.number())?;
-        let next = told.tool;
-        Ok(listening(next, self.adp))
+        let told = self.tool.session_end();
+        print_tool(rt, answer_number(told.answer))?;
+        Ok(Primary::listening(told.tool, self.adp))
     }
 }

@@ -1,6 +1,4 @@
 // The three cards of the block, and the one that takes the place of the flat's.
-ghost use Rattle.std.specs.Prelude.{◌≤◌, ◌<◌, length};
-
 use card::Card;
 use numbers::{Characters, Octets};
 use records::sizes::{MOST_OCTETS, MOST_RECORDS};
@@ -30,15 +28,12 @@ pub(crate) struct Room {
 
 // The tool knows the records of the new card by their TAB.
 pub(crate) fn new_room(tab: u8) -> Room {
-    match tab {
-        0x01 => room_of(4, 0),
-        0x02 => room_of(8, 0),
-        0x0A => room_of(16, 3),
-        _ => room_of(17, 20),
-    }
-}
-
-fn room_of(octets: usize, characters: usize) -> Room {
+    let (octets, characters) = match tab {
+        0x01 => (4, 0),
+        0x02 => (8, 0),
+        0x0A => (16, 3),
+        _ => (17, 20),
+    };
     Room {
         octets: Octets(octets),
         characters: Characters(characters),
@@ -47,110 +42,100 @@ fn room_of(octets: usize, characters: usize) -> Room {
 
 // The TABs 0A and 0B are labels, all others raw.
 pub(crate) fn is_label(tab: u8) -> bool {
-    tab == 0x0A || tab == 0x0B
+    matches!(tab, 0x0A | 0x0B)
 }
 
-fn kind_of(tab: u8, characters: usize) -> Kind {
-    if is_label(tab) {
-        Kind::Label(Characters(characters))
-    } else {
-        Kind::Raw
-    }
-}
-
-// A record in a table: TAB, octet limit, character limit, length of the contents, contents. All are readable and open to programming.
-fn attributes_of(row: &[u8]) -> Attributes {
-    let tab = octets::octet(row, 0);
-    let limit = Octets(octets::octet(row, 1) as usize);
-    let kind = kind_of(tab, octets::octet(row, 2) as usize);
-    Attributes {
-        tab: tab,
-        kind: kind,
-        limit: limit,
-        readable: true,
-        programming: true,
-        transfer: false,
-    }
-}
-
-fn record_of(row: &[u8]) -> Record {
-    let contents = octets::part(row, 4, row.len());
+// A record with its contents. All are readable and open to programming.
+fn record(tab: u8, kind: Kind, limit: usize, contents: &[u8]) -> Record {
     let mut storage = [0u8; MOST_OCTETS];
     octets::put(&mut storage, 0, contents);
-    let attributes = attributes_of(row);
-    let length = Octets(contents.len());
     Record {
-        attributes: attributes,
-        length: length,
-        storage: storage,
+        attributes: Attributes {
+            tab,
+            kind,
+            limit: Octets(limit),
+            readable: true,
+            programming: true,
+            transfer: false,
+        },
+        length: Octets(contents.len()),
+        storage,
     }
 }
 
-// One record more; none where a card has no place for it.
-fn with(records: Records, row: &[u8]) -> Records {
-    let n = records.count;
-    let mut next = records;
-    if n < MOST_RECORDS {
-        let fresh = record_of(row);
-        next.each[n] = fresh;
-        next.count = n + 1;
-    }
-    next
+fn raw(tab: u8, limit: usize, contents: &[u8]) -> Record {
+    record(tab, Kind::Raw, limit, contents)
 }
 
-// Where the record that begins at an offset ends.
-fn record_end(table: &[u8], at: usize) -> usize
-    requires { at < length table.now }
-    ensures { (at < result) × (result ≤ length table.now) }
-{
-    let left = table.len() - at;
-    if left < 4 {
-        return table.len();
-    }
-    let size = 4 + octets::octet(table, at + 3) as usize;
-    if left < size { table.len() } else { at + size }
+fn label(tab: u8, limit: usize, characters: usize, contents: &str) -> Record {
+    let kind = Kind::Label(Characters(characters));
+    record(tab, kind, limit, contents.as_bytes())
 }
 
-fn records_of(table: &[u8]) -> Records {
+// A card with these records, as many as it has places for.
+fn set_up(ads: [u8; 6], key: [u8; 8], all: &[Record]) -> Card {
     let mut records = Records::empty();
-    let mut at = 0;
-    while at < table.len() {
-        let end = record_end(table, at);
-        records = with(records, octets::part(table, at, end));
-        at = end;
+    for (place, record) in records.each.iter_mut().zip(all) {
+        *place = *record;
     }
-    records
+    records.count = all.len().min(MOST_RECORDS);
+    Card::setup(&ads, &key, records).card
 }
 
-fn set_up(ads: [u8; 6], key: [u8; 8], table: &[u8]) -> Card {
-    let answered = Card::setup(&ads, &key, records_of(table));
-    answered.card
-}
-
-// Two raw records of 4 and 8 octets, 000186A0 and 0617210A, and two labels, of 16 octets and characters and of 40: Zoé, with e and U+0301, and Résidence du Château.
+// Two raw records of 4 and 8 octets, and two labels, of 16 octets and characters and of 40: Zoé, with e and U+0301, and Résidence du Château.
 fn old_card() -> Card {
-    let table =
-        b"\x01\x04\x00\x04\x00\x01\x86\xA0\x02\x08\x00\x04\x06\x17\x21\x0A\x0A\x10\x10\x05Zoe\xCC\x81\x0B\x28\x28\x16R\xC3\xA9sidence du Ch\xC3\xA2teau";
-    set_up(FLAT, FLAT_KEY, table)
+    set_up(
+        FLAT,
+        FLAT_KEY,
+        &[
+            raw(0x01, 4, &[0x00, 0x01, 0x86, 0xA0]),
+            raw(0x02, 8, &[0x06, 0x17, 0x21, 0x0A]),
+            label(0x0A, 16, 16, "Zoe\u{301}"),
+            label(0x0B, 40, 40, "Résidence du Château"),
+        ],
+    )
 }
 
 // The same records, all empty, but that the labels have room for 16 octets and 3 characters, and for 17 and 20.
 pub(crate) fn new_card() -> Card {
-    let table = b"\x01\x04\x00\x00\x02\x08\x00\x00\x0A\x10\x03\x00\x0B\x11\x14\x00";
-    set_up(FLAT, FLAT_KEY, table)
+    set_up(
+        FLAT,
+        FLAT_KEY,
+        &[
+            raw(0x01, 4, &[]),
+            raw(0x02, 8, &[]),
+            label(0x0A, 16, 3, ""),
+            label(0x0B, 17, 20, ""),
+        ],
+    )
 }
 
 // An index and a label, Inès.
 fn second_card() -> Card {
-    let table = b"\x01\x04\x00\x04\x00\x00\x0B\xB8\x0A\x10\x10\x05In\xC3\xA8s";
-    set_up(SECOND, NEIGHBOURS_KEY, table)
+    set_up(
+        SECOND,
+        NEIGHBOURS_KEY,
+        &[
+            raw(0x01, 4, &[0x00, 0x00, 0x0B, 0xB8]),
+            label(0x0A, 16, 16, "Inès"),
+        ],
+    )
 }
 
 // Six indexes, so that the van reads this station a sixth time.
 fn third_card() -> Card {
-    let table =
-        b"\x01\x04\x00\x04\x00\x00\xC3\x50\x02\x04\x00\x04\x00\x00\xC3\x51\x03\x04\x00\x04\x00\x00\xC3\x52\x04\x04\x00\x04\x00\x00\xC3\x53\x05\x04\x00\x04\x00\x00\xC3\x54\x06\x04\x00\x04\x00\x00\xC3\x55";
-    set_up(THIRD, NEIGHBOURS_KEY, table)
+    set_up(
+        THIRD,
+        NEIGHBOURS_KEY,
+        &[
+            raw(0x01, 4, &[0x00, 0x00, 0xC3, 0x50]),
+            raw(0x02, 4, &[0x00, 0x00, 0xC3, 0x51]),
+            raw(0x03, 4, &[0x00, 0x00, 0xC3, 0x52]),
+            raw(0x04, 4, &[0x00, 0x00, 0xC3, 0x53]),
+            raw(0x05, 4, &[0x00, 0x00, 0xC3, 0x54]),
+            raw(0x06, 4, &[0x00, 0x00, 0xC3, 0x55]),
+        ],
+    )
 }
 
 // The block in the morning.

@@ -1,8 +1,7 @@
 // The wire: what one station sends, all others hear, octet by octet.
-ghost use Rattle.std.specs.Prelude.{◌<◌};
-
+use crate::filled::Filled;
 use card::Card;
-use printing::{print, print_card, print_frame, print_number, print_octets};
+use printing::{print_card, print_frame};
 use std::io;
 
 // The number that the host of a card lends with each octet. It is fixed, so that every day prints the same; a real host lends a fresh one that nobody can guess.
@@ -11,145 +10,86 @@ const NA2: [u8; 8] = [0xFE, 0xDC, 0xBA, 0x98, 0x76, 0x54, 0x32, 0x10];
 // The place of the tool; the cards have the places 0, 1 and 2.
 pub(crate) const TOOL: usize = 3;
 
-// A frame on its way, from the station at a place: the first octets of an array. No octets where nobody speaks.
+// A frame on its way, from the station at a place.
 #[derive(Clone, Copy)]
 pub(crate) struct Sent {
-    pub(crate) octets: [u8; 128],
-    pub(crate) length: usize,
+    pub(crate) frame: Filled<128>,
     pub(crate) place: usize,
-}
-
-// What becomes of a reply on the wire: nothing, or the octet at an offset is damaged.
-#[derive(Clone, Copy)]
-pub(crate) enum Damage {
-    None,
-    At(usize),
 }
 
 // The cards after octets, and the reply of one of them.
 #[derive(Clone, Copy)]
 pub(crate) struct Cards {
     pub(crate) each: [Card; 3],
-    pub(crate) reply: Sent,
+    pub(crate) reply: Option<Sent>,
 }
 
-// A card after an octet, and its reply: the first octets of an array.
+// A card after an octet, and its reply, none of no octets.
 #[derive(Clone, Copy)]
 struct Heard {
     card: Card,
-    octets: [u8; 128],
-    length: usize,
-}
-
-pub(crate) fn silence() -> Sent {
-    Sent {
-        octets: [0u8; 128],
-        length: 0,
-        place: TOOL,
-    }
+    reply: Filled<128>,
 }
 
 impl Sent {
-    // The frame so far, or the one that has come now.
-    pub(crate) fn or(self, buffer: [u8; 128], length: usize, place: usize) -> Sent {
-        if length == 0 {
-            return self;
-        }
-        Sent {
-            octets: buffer,
-            length: length,
-            place: place,
-        }
+    // The frame of a buffer that a station at a place has filled; none where it has put nothing there.
+    pub(crate) fn from(place: usize, frame: Filled<128>) -> Option<Sent> {
+        (frame.length != 0).then_some(Sent { frame, place })
     }
 
-    pub(crate) fn print(self, rt: &impl Print, speaker: &[u8]) -> io::Result<()> {
-        let octets = self.octets;
-        if self.length != 0 {
-            print_frame(rt, speaker, octets::part(&octets, 0, self.length))?;
-        }
-        Ok(())
+    pub(crate) fn print(&self, rt: &impl Print, speaker: &[u8]) -> io::Result<()> {
+        print_frame(rt, speaker, self.frame.octets())
     }
 
-    // Each bit of a damaged octet is turned.
-    pub(crate) fn damaged(self, rt: &impl Print, damage: Damage) -> io::Result<Sent> {
-        let Damage::At(at) = damage else {
+    // The frame as it arrives where the octet at an offset is damaged, which turns each of its bits.
+    pub(crate) fn damaged(self, rt: &impl Print, damage: Option<usize>) -> io::Result<Sent> {
+        let Some(at) = damage else {
             return Ok(self);
         };
-        let mut octets = self.octets;
-        let old = octets::octet(&octets, at);
-        print_damage(rt, at, old)?;
-        octets::put(&mut octets, at, &[255 - old]);
-        let mut next = self;
-        next.octets = octets;
-        Ok(next)
+        let old = octets::octet(&self.frame.array, at);
+        let turned = !old;
+        println!(rt; "wire  octet {at} turns from {old:02X} to {turned:02X}")?;
+        let mut arrived = self;
+        octets::put(&mut arrived.frame.array, at, &[turned]);
+        Ok(arrived)
     }
-}
-
-fn print_damage(rt: &impl Print, at: usize, old: u8) -> io::Result<()> {
-    print_number(rt, b"wire  octet ", at)?;
-    print_octets(rt, b" turns from ", &[old])?;
-    print_octets(rt, b" to ", &[255 - old])?;
-    print(rt, b"\n")
 }
 
 // Every card but the one that sends hears a frame: an octet after the other, and each by one card after the other.
-pub(crate) fn cards_hear(rt: &impl Print, cards: [Card; 3], sent: Sent) -> io::Result<Cards> {
-    let mut now = Cards {
-        each: cards,
-        reply: silence(),
-    };
-    let octets = sent.octets;
-    let place = sent.place;
-    let frame = octets::part(&octets, 0, sent.length);
-    let mut i = 0;
-    while i < 384 {
-        if i / 3 < frame.len() && i % 3 != place {
-            now = card_hears(rt, now, i % 3, octets::octet(frame, i / 3))?;
+pub(crate) fn cards_hear(rt: &impl Print, cards: [Card; 3], sent: &Sent) -> io::Result<Cards> {
+    let mut each = cards;
+    let mut reply = None;
+    for &octet in sent.frame.octets() {
+        for place in 0..3 {
+            if place != sent.place {
+                let heard = hears(rt, each[place], octet)?;
+                each[place] = heard.card;
+                reply = Sent::from(place, heard.reply).or(reply);
+            }
         }
-        i += 1;
     }
-    Ok(now)
-}
-
-// The card at a place hears an octet.
-fn card_hears(rt: &impl Print, cards: Cards, place: usize, octet: u8) -> io::Result<Cards>
-    requires { place < 3 }
-{
-    let mut each = cards.each;
-    let before = cards.reply;
-    let heard = hears(rt, each[place], octet)?;
-    let next = heard.card;
-    let octets = heard.octets;
-    each[place] = next;
-    Ok(Cards {
-        each: each,
-        reply: before.or(octets, heard.length, place),
-    })
+    Ok(Cards { each, reply })
 }
 
 // A card hears an octet, and its host says which number it got.
 fn hears(rt: &impl Print, card: Card, octet: u8) -> io::Result<Heard> {
-    let mut buffer = [0u8; 128];
-    let identity = card.identity;
-    let address = identity.address;
-    let stepped = card.octet(octet, &NA2, &mut buffer);
-    let next = stepped.card;
-    let answer = stepped.answer;
-    print_card(rt, address, answer.number())?;
-    let reply = stepped.reply;
+    let mut array = [0u8; 128];
+    let stepped = card.octet(octet, &NA2, &mut array);
+    print_card(
+        rt,
+        card.identity.address,
+        card::answer_number(stepped.answer),
+    )?;
     Ok(Heard {
-        card: next,
-        octets: buffer,
-        length: reply.0,
+        card: stepped.card,
+        reply: Filled {
+            array,
+            length: stepped.reply.0,
+        },
     })
 }
 
 // Nothing more comes: the host of each card reports a session end.
 pub(crate) fn cards_leave(cards: [Card; 3]) -> [Card; 3] {
-    [leave(cards[0]), leave(cards[1]), leave(cards[2])]
-}
-
-fn leave(card: Card) -> Card {
-    let answered = card.session_end();
-    answered.card
+    cards.map(|card| card.session_end().card)
 }

@@ -1,48 +1,39 @@
 // How many vectors were run, and how many came out right each way.
-use numbers::Octets;
-use std::io;
-use text::{put_number, put_words};
+use std::fmt;
 
-#[derive(Clone, Copy)]
+#[derive(Clone, Copy, Default)]
 pub(crate) struct Tally {
     pub(crate) vectors: u64,
     pub(crate) enciphered: u64,
     pub(crate) deciphered: u64,
 }
 
-pub(crate) fn none() -> Tally {
-    Tally {
-        vectors: 0,
-        enciphered: 0,
-        deciphered: 0,
+impl Tally {
+    // One vector, right or wrong each way.
+    pub(crate) fn one(enciphered: bool, deciphered: bool) -> Tally {
+        Tally {
+            vectors: 1,
+            enciphered: u64::from(enciphered),
+            deciphered: u64::from(deciphered),
+        }
+    }
+
+    // The sum of two tallies. No input is long enough for a count to wrap.
+    pub(crate) fn plus(self, other: Tally) -> Tally {
+        Tally {
+            vectors: self.vectors.wrapping_add(other.vectors),
+            enciphered: self.enciphered.wrapping_add(other.enciphered),
+            deciphered: self.deciphered.wrapping_add(other.deciphered),
+        }
     }
 }
 
-// One vector, right or wrong each way.
-pub(crate) fn one(enciphered: bool, deciphered: bool) -> Tally {
-    Tally {
-        vectors: 1,
-        enciphered: enciphered as u64,
-        deciphered: deciphered as u64,
+impl fmt::Display for Tally {
+    fn fmt<W: fmt::Write>(&self, f: &mut fmt::Formatter<W>) -> fmt::Result {
+        write!(
+            f,
+            "{} enciphered {} deciphered {}",
+            self.vectors, self.enciphered, self.deciphered
+        )
     }
-}
-
-// The sum of two tallies. No input is long enough for a count to wrap.
-pub(crate) fn sum(a: Tally, b: Tally) -> Tally {
-    Tally {
-        vectors: a.vectors.wrapping_add(b.vectors),
-        enciphered: a.enciphered.wrapping_add(b.enciphered),
-        deciphered: a.deciphered.wrapping_add(b.deciphered),
-    }
-}
-
-// Writes a tally on a line of its own, under a name of any length.
-pub(crate) fn print(rt: &impl Print, name: &[u8], t: Tally) -> io::Result<()> {
-    let mut line = [0u8; 128];
-    let enciphered_at = put_number(&mut line, Octets(0), b" ", t.vectors);
-    let deciphered_at = put_number(&mut line, enciphered_at, b" enciphered ", t.enciphered);
-    let next = put_number(&mut line, deciphered_at, b" deciphered ", t.deciphered);
-    let end = put_words(&mut line, next, b"\n");
-    rt.write_all(name)?;
-    rt.write_all(octets::part(&line, 0, end.0))
 }

@@ -1,10 +1,6 @@
 -- `play` is safe and ends: each call takes an octet or more, so what is left of the input falls.
-use Rattle.std.proofs.Common.{arith}
-use Rattle.history.proofs.Decoding.{call_taken}
+use Rattle.history.proofs.Decoding.{fewer_left, some_left}
 use Rattle.cardlog.proofs.calls.play.Goals as goal
 
-pub overflow_add-at : goal.overflow_add-at
-overflow_add-at g c = omega (arith, call_taken c.args.s.now c.loop-at.at c.head_at-head.result c.loop-at-test.true c.head_at-head.ensures)
-
-pub loop-at-smaller : goal.loop-at-smaller
-loop-at-smaller g c = omega (arith, call_taken c.args.s.now c.loop-at.at c.head_at-head.result c.loop-at-test.true c.head_at-head.ensures)
+pub loop-calls-smaller : goal.loop-calls-smaller
+loop-calls-smaller g c = fewer_left c.loop-calls.calls.now _ (some_left _ c.loop-calls-test.ensures) c.split_call.ensures.rest

@@ -1,8 +1,5 @@
--- `compare_files` is safe and ends: the records that are left fall by one a turn.
+-- `compare_files` is safe and ends: each search leaves fewer records than there were.
 use Rattle.day.proofs.hours.compare_files.Given as goal
 
-abbrev pub invariant-loop-left : goal.invariant-loop-left
-invariant-loop-left g l = Unit {0}
-
-abbrev pub decreases-loop-left : goal.decreases-loop-left
-decreases-loop-left g l = l.left
+abbrev pub decreases-loop-entry : goal.decreases-loop-entry
+decreases-loop-entry g l = l.old_cursor.left.0

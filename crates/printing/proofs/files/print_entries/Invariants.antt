@@ -1,8 +1,5 @@
--- `print_entries` is safe and ends: the records that are left fall by one a turn.
+-- `print_entries` is safe and ends: each record counts the cursor down.
 use Rattle.printing.proofs.files.print_entries.Given as goal
 
-abbrev pub invariant-loop-left : goal.invariant-loop-left
-invariant-loop-left g l = Unit {0}
-
-abbrev pub decreases-loop-left : goal.decreases-loop-left
-decreases-loop-left g l = l.left
+abbrev pub decreases-loop-entry : goal.decreases-loop-entry
+decreases-loop-entry g l = l.cursor.left.0

@@ -1,5 +1,6 @@
+-- `read_full` is safe and ends: the buffer keeps its length, and the room that is left in it falls.
 use Rattle.std.proofs.Common.{length, ◌-◌, ◌≡◌, ◌≤◌}
-use Rattle.des_vectors.proofs.read_full.Given as goal
+use Rattle.printing.proofs.input.read_full.Given as goal
 
 abbrev pub invariant-loop-done : goal.invariant-loop-done
 invariant-loop-done g l = (length l.buffer ≡ length l.initial.buffer) × (l.done ≤ length l.buffer)
