@@ -4,7 +4,7 @@
  * writes anything but what its sentence names. Buffers of one call must not overlap, and no pointer is null, also where its count is 0.
  *
  * Stack, measured in octets below the caller (examples/call_stack.c): one DES block, either way, 104, with one round key held at a time; a check key
- * 32, its test 48; fit 80. */
+ * 32, its test 48; fit 88. */
 #ifndef PROPOLISK_PRIMITIVES_H
 #define PROPOLISK_PRIMITIVES_H
 

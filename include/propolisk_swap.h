@@ -4,7 +4,7 @@
  * not overlap, and no pointer is null, also where its count is 0. ADS is in written order, most significant octet first. A refusal changes
  * nothing that is lent but the cell that it names.
  *
- * Stack, measured in octets below the caller (examples/call_stack.c): add 106,888, all other calls under 350. */
+ * Stack, measured in octets below the caller (examples/call_stack.c): add 106,824, all other calls under 300. */
 #ifndef PROPOLISK_SWAP_H
 #define PROPOLISK_SWAP_H
 

@@ -31,7 +31,7 @@
  * - It fits a label for a record with propolisk_label_fit (propolisk_primitives.h) before it programs or transfers it: octet counts and character
  *   counts never stand in for each other.
  *
- * Stack, measured in octets below the caller (examples/call_stack.c): octet 3,080, the requests under 2,700, gap and session_end under 1,050,
+ * Stack, measured in octets below the caller (examples/call_stack.c): octet 3,272, the requests under 2,300, gap and session_end under 900,
  * new 24. */
 #ifndef PROPOLISK_TOOL_H
 #define PROPOLISK_TOOL_H
