@@ -4,15 +4,15 @@ use mathlib.Core.Bool.{Bool, true, false, cond}
 use mathlib.Core.List.{List, [], ◌∷◌}
 use mathlib.Core.Path.{◌≡◌, refl, sym, ap, ◌∙◌}
 use native.Mathlib.Omega.{arith}
-use lib.ListN.{length, take, drop, get_or, length-drop, drop_of_length-le}
-use lib.Seq.{take_all, drop-drop}
+use lib.ListN.{length, take, drop, get_or, length-drop}
+use lib.Seq.{take_all}
 use Rattle.std.proofs.Common.{◌==◌}
-use borrow.Author.Tests.{eqb-true, eqb-false, leb-true, le-leb, lt-leb}
-use Rattle.octets.proofs.Parts.{part_there}
+use borrow.Author.Tests.{eqb-true, eqb-false, leb-true, lt-leb}
 use Rattle.card.specs.declared.Card.{Card}
 use Rattle.card.specs.Events.{gap, after}
+use Rattle.history.specs.declared.calls.Head.{Head}
 use Rattle.history.specs.Claim.{run}
-use Rattle.history.specs.Encoding.{head_width, whole_at, text_at, call_of, call_at, size_at, calls_within, calls_of}
+use Rattle.history.specs.Encoding.{head_width, whole_at, whole_head, cut_head, head_at, call_of, call_at, size_at, calls_within, calls_of}
 
 -- what a pattern of the code has of the octets behind the first n
 pub behind : (n : ℕ) (h : List ℕ) → (take (length h - n) (drop n h) ≡ drop n h) × (length (take (length h - n) (drop n h)) ≡ length h - n)
@@ -21,52 +21,29 @@ behind n h =
     (all, ap length all ∙ length-drop n h)
 
 -- octets that end before the call that they begin with
-module _ (h : List ℕ) (cut : length h < head_width + get_or h 3 0) where
-  pub cut_call : call_at h ≡ gap
-  unfolding call_at
-  cut_call = rw (lt-leb _ _ cut)
-
-  pub cut_rest : drop (size_at h) h ≡ []
-  unfolding size_at
-  cut_rest = rw (lt-leb _ _ cut) (drop_of_length-le h {i = length h} (omega arith))
-
--- octets that begin with a whole call
-module _ (h : List ℕ) (n : ℕ) (says : n ≡ get_or h 3 0) (whole : head_width + n ≤ length h) where
-  fits : head_width + get_or h 3 0 ≤ length h
-  fits = omega arith
-
-  text_taken : text_at h ≡ take n (drop head_width h)
-  unfolding text_at
-  text_taken = part_there h head_width (head_width + get_or h 3 0) fits ∙ ap (λ (m : ℕ). take m (drop head_width h)) (omega arith)
-
-  pub whole_call : call_at h ≡ call_of (get_or h 0 0) (get_or h 1 0) (get_or h 2 0) (take n (drop head_width h))
-  unfolding call_at
-  whole_call = rw (le-leb _ _ fits, text_taken)
-
-  pub whole_rest : drop (size_at h) h ≡ drop n (drop head_width h)
-  unfolding size_at
-  whole_rest = rw (le-leb _ _ fits, ← says) (sym (drop-drop n head_width h))
+pub cut_call : (h : List ℕ) → length h < head_width + get_or h 3 0 → call_at h ≡ gap
+unfolding call_at head_at call_of
+cut_call h cut = rw (lt-leb _ _ cut)
 
 -- a call takes no more octets than there are, and an octet or more where there is one
 pub size_within : (h : List ℕ) → size_at h ≤ length h
-unfolding size_at
+unfolding head_at
 size_within h = by (whole_at h) refl
   where
-    by : (b : Bool) → whole_at h ≡ b → cond b (head_width + get_or h 3 0) (length h) ≤ length h
+    by : (b : Bool) → whole_at h ≡ b → (cond b (whole_head h) (cut_head h)).size.0 ≤ length h
     by true e = leb-true _ _ e
     by false e = omega arith
 
-pub call_taken : (h : List ℕ) → 0 < length h → 0 < size_at h
-unfolding size_at
-call_taken h p = by (whole_at h)
+pub head_within : (h : List ℕ) (x : Head) → x ≡ head_at h → x.size.0 ≤ length h
+head_within h x e = omega (arith, ap (λ (y : Head). y.size.0) e, size_within h)
+
+pub some_taken : (h : List ℕ) → 0 < length h → (0 < size_at h) × (size_at h ≤ length h)
+unfolding head_at
+some_taken h p = (by (whole_at h), size_within h)
   where
-    by : (b : Bool) → 0 < cond b (head_width + get_or h 3 0) (length h)
+    by : (b : Bool) → 0 < (cond b (whole_head h) (cut_head h)).size.0
     by true = omega arith
     by false = p
-
--- a call takes an octet or more, and no more than there are
-pub some_taken : (h : List ℕ) → 0 < length h → (0 < size_at h) × (size_at h ≤ length h)
-some_taken h p = (call_taken h p, size_within h)
 
 -- the code's test of whether octets are left
 pub some_left : (h : List ℕ) → false ≡ (length h == 0) → 0 < length h
@@ -77,7 +54,7 @@ none_left h e = eqb-true (length h) 0 (sym e)
 
 -- so the octets behind it are fewer
 pub fewer_left : (h rest : List ℕ) → 0 < length h → rest ≡ drop (size_at h) h → length rest < length h
-fewer_left h rest p e = omega (arith, call_taken h p, ap length e, length-drop (size_at h) h)
+fewer_left h rest p e = omega (arith, (some_taken h p).0, ap length e, length-drop (size_at h) h)
 
 pub calls_none : (n : ℕ) → calls_within n [] ≡ []
 unfolding calls_within

@@ -9,7 +9,7 @@ use lib.Seq.{drop-append_seam, drop-drop}
 use borrow.Author.Tests.{le-leb}
 use Rattle.octets.proofs.Parts.{part_middle}
 use Rattle.card.specs.Events.{Call, octet_call, gap, session_end, meter_write}
-use Rattle.history.specs.Encoding.{head_width, whole_at, text_at, call_of, call_at, size_at, calls_within, calls_of, packed, octets_of_call, octets_of_calls}
+use Rattle.history.specs.Encoding.{head_width, call_kind, whole_at, text_at, head_at, call_of, call_at, size_at, calls_within, calls_of, packed, octets_of_call, octets_of_calls}
 use Rattle.history.proofs.Decoding.{calls_none}
 
 module _ (kind argument reply : ℕ) (text rest : List ℕ) where
@@ -23,20 +23,20 @@ module _ (kind argument reply : ℕ) (text rest : List ℕ) where
   unfolding text_at
   text_read = part_middle (kind ∷ argument ∷ reply ∷ length text ∷ []) text rest head_width (head_width + length text) refl refl
 
-  pub call_read : call_at here ≡ call_of kind argument reply text
-  unfolding call_at
+  pub call_read : call_at here ≡ call_of (call_kind kind) argument reply text
+  unfolding call_at head_at
   call_read = rw (whole, text_read)
 
   pub size_read : size_at here ≡ head_width + length text
-  unfolding size_at
-  size_read = rw whole
+  unfolding head_at
+  size_read = rw (whole, size_at)
 
-  first_read : (n : ℕ) → calls_within (suc n) here ≡ call_of kind argument reply text ∷ calls_within n rest
+  first_read : (n : ℕ) → calls_within (suc n) here ≡ call_of (call_kind kind) argument reply text ∷ calls_within n rest
   unfolding calls_within
   first_read n = rw (call_read, size_read, ← drop-drop (length text) head_width here, drop-append_seam text rest)
 
 call_back : (k : Call) (rest : List ℕ) (n : ℕ) → calls_within (suc n) (octets_of_call k ++ rest) ≡ k ∷ calls_within n rest
-unfolding octets_of_call call_of
+unfolding octets_of_call call_of call_kind
 call_back (octet_call o loan) rest n = first_read 0 o loan.reply loan.na2 rest n
 call_back (meter_write t d) rest n = first_read 1 t 0 d rest n
 call_back session_end rest n = first_read 2 0 0 [] rest n

@@ -8,7 +8,7 @@ use lib.ListN.{length, length-append}
 use lib.Seq.{drop-append_seam, drop-drop}
 use borrow.Author.Tests.{le-leb}
 use Rattle.card.specs.Events.{Call, octet_call, gap, session_end, meter_write}
-use Rattle.history.specs.Encoding.{call_of, call_at, size_at, octets_of_call}
+use Rattle.history.specs.Encoding.{call_kind, call_of, call_at, size_at, octets_of_call}
 use Rattle.history.proofs.RoundTrip.{call_read, size_read}
 use Rattle.memory_history.specs.Claim.{MemoryCall}
 use Rattle.memory_history.specs.Encoding.{room_width, room_at, memory_call_at, memory_size_at, memory_calls_within, memory_calls_of, octets_of_memory_call, octets_of_memory_calls}
@@ -16,7 +16,7 @@ use Rattle.memory_history.proofs.Decoding.{calls_none}
 
 -- a call by value is read back whole
 call_back : (k : Call) (rest : List ℕ) → call_at (octets_of_call k ++ rest) ≡ k
-unfolding octets_of_call call_of
+unfolding octets_of_call call_of call_kind
 call_back (octet_call o loan) rest = call_read 0 o loan.reply loan.na2 rest
 call_back (meter_write t d) rest = call_read 1 t 0 d rest
 call_back session_end rest = call_read 2 0 0 [] rest
