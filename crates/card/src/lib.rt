@@ -78,6 +78,7 @@ pub struct Stepped {
 }
 
 impl Refusal {
+    // No From: `number` says which octet of an answer it is.
     pub fn number(self) -> u8
         ensures { result ≡ refusal_number self }
     {

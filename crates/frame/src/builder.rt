@@ -20,6 +20,7 @@ pub enum Refusal {
 }
 
 impl Refusal {
+    // No From: `number` says which octet of an answer it is.
     pub fn number(self) -> u8
         ensures { result ≡ refusal_number self }
     {

@@ -30,6 +30,7 @@ pub enum Fault {
 }
 
 impl Fault {
+    // No From: `number` says which octet of an answer it is.
     pub fn number(self) -> u8
         ensures { result ≡ fault_number self }
     {

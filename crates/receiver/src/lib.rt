@@ -45,6 +45,7 @@ pub struct Received {
 
 impl Event {
     // The number that goes to the host; 0 where there is none.
+    // No From: `number` says which octet of an answer it is.
     pub fn number(self) -> u8
         ensures { result ≡ number_of (answer_of_event self) }
     {

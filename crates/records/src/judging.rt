@@ -8,6 +8,7 @@ use crate::{Attributes, Kind, Record, Refusal};
 use numbers::{Characters, Octets, table};
 
 impl Refusal {
+    // No From: `number` says which octet of an answer it is.
     pub fn number(self) -> u8
         ensures { result ≡ refusal_number self }
     {

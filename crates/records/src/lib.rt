@@ -42,6 +42,7 @@ pub struct Record {
 }
 
 // The first `count` records are in use. The others are free.
+// An array of one length: there is no heap, and the definitions keep the free records.
 #[derive(Clone, Copy)]
 pub struct Records {
     pub count: usize,

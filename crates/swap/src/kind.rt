@@ -52,6 +52,7 @@ impl From<Kind> for u8 {
 }
 
 // Whether an octet stands for a kind.
+// It stands beside `try_from`, since docs/STATEMENTS.md names it.
 #[tactic(auto, unfolding(crate::specs::Kind::kind_read))]
 pub fn known(octet: u8) -> bool
     ensures { result ≡ known_kind octet }

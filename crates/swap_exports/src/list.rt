@@ -10,6 +10,7 @@ use swap::RecordCount;
 use swap_list::{CONTENTS_SIZE, HEADS_SIZE, RecordList};
 
 // 0 with the next list's two counts, or 18 with the offset; a refusal leaves both arrays and both counts.
+// The kind is an octet here (the C interface).
 #[unsafe(no_mangle)]
 pub extern "C" fn propolisk_swap_add(
     heads: &mut [u8; HEADS_SIZE],

@@ -54,6 +54,7 @@ impl RecordList {
     }
 
     // As `add`, with the octet that stands for the kind; one that stands for none is a bad item too. Data that leaves no room for a count makes a file too long.
+    // The kind is an octet, since one that stands for none has an answer too (`adding`).
     pub fn add_with_octet(
         self,
         heads: &mut [u8; HEADS_SIZE],

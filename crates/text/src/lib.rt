@@ -41,6 +41,7 @@ impl Decimal {
 }
 
 // Words.
+// The buffer is lent and the offset goes in and out, as docs/STATEMENTS.md has these calls.
 pub fn put_words(buffer: &mut [u8], at: Octets, words: &[u8]) -> Octets
     ensures { Written buffer.old at.0 words.now result.0 buffer.new }
 {

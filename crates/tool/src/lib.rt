@@ -111,6 +111,7 @@ pub struct Heard {
 }
 
 impl Refusal {
+    // No From: `number` says which octet of an answer it is.
     pub fn number(self) -> u8
         ensures { result ≡ refusal_number self }
     {

@@ -276,6 +276,7 @@ impl Tool {
         self.ask(&lent, frame)
     }
 
+    // Two public names with `broadcast`, since docs/STATEMENTS.md has both; each is a few lines over `ask`.
     pub fn transfer(self, ads: &[u8], adp: u8, tab: u8, data: &[u8], frame: &mut [u8]) -> Requested
         ensures { Gives (after_asking self (transferring ads.now adp tab «data».now) (length frame.old)) frame.old frame.new (answer_of_requested result) }
     {
