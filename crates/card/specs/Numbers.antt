@@ -6,6 +6,7 @@ use Rattle.records.specs.Numbers as records
 use Rattle.card.specs.declared.Refusal.{Refusal}
 use Rattle.card.specs.declared.Refusal.TheVariants.{BadFrame, BroadcastAddress, Write, BrokenRule, WrongCipher, WrongLength, WeakKey}
 
+-- 01, Numbers handed back: the number of each refusal
 abbrev pub refusal_number : Refusal → ℕ
 refusal_number (BadFrame fault) = fault_number fault
 refusal_number BroadcastAddress = wrong_address
@@ -15,7 +16,7 @@ refusal_number WrongCipher = wrong_cipher
 refusal_number WrongLength = wrong_length
 refusal_number WeakKey = weak_key
 
--- what a call tells the host: none, or why it is refused
+-- 01, Numbers handed back: what a call tells the host: nothing, or why it is refused
 abbrev pub Answer : Type 0
 Answer = Result (Unit {0}) Refusal
 

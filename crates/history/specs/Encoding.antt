@@ -54,7 +54,7 @@ call_at h = call_of (head_at h).kind (head_at h).argument (head_at h).reply (tex
 abbrev pub size_at : List ℕ → ℕ
 size_at h = (head_at h).size.0
 
--- the call that the code's call stands for
+-- 00, demand 3: the call of a history that the code's call stands for
 abbrev pub call_meant : Lent → Call
 call_meant (lent.Octet octet na2 reply) = octet_call octet (record { na2 = na2.now; reply = reply })
 call_meant (lent.MeterWrite tab text) = meter_write tab text.now

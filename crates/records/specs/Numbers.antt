@@ -18,7 +18,7 @@ abbrev pub answer_number : Result (Unit {0}) Refusal → ℕ
 answer_number (Ok done) = none
 answer_number (Err refusal) = refusal_number refusal
 
--- what is given, or the refusal's number
+-- 01, Numbers handed back: what is given, or the refusal's number
 abbrev pub answer_of : {Values : Type 0} → Result Values Refusal → number.Answer Values
 answer_of (Ok values) = number.given values
 answer_of (Err refusal) = number.refused (refusal_number refusal)

@@ -182,12 +182,12 @@ after_asking t q buffer_length =
     (unless_refused (admission t q) t (sending q t))
     (refusing t wrong_length)
 
--- the arguments by value of what is lent rightly
+-- For private functions alone (01, The tool): the arguments by value of what is lent rightly
 pub record Sized (q : Asking) (a : Arguments) : Type 0 where
   pub lent : lent_rightly q.ads q.key q.na1 longest_frame ≡ true
   pub asking : asking_of a ≡ q
 
--- a request that is not refused, with its arguments by value: its DATA are within its limit, and it is sent
+-- For private functions alone (01, The tool): a request that is not refused, with its arguments by value: its DATA are within its limit, and it is sent
 pub record Accepted (t : Tool) (q : Asking) (a : Arguments) : Type 0 where
   pub content : length a.«data».now ≤ limit_of a.request
   pub response : after_asking t q longest_frame ≡ sending (asking_of a) t
