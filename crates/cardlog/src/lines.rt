@@ -1,8 +1,12 @@
 // The lines that are printed.
 use history::calls::LONGEST_LENT;
-use printing::print_octets;
+use numbers::Octets;
 use records::{Record, Records};
 use std::io;
+use text::{put_hex, put_number, put_words};
+
+// Enough for every line: the longest, with the octets of a reply or a record, has under 600 octets.
+const LINE_SIZE: usize = 640;
 
 pub(crate) fn print_setup(rt: &impl Print, number: u8) -> io::Result<()> {
     println!(rt; "setup {number}")
@@ -28,9 +32,19 @@ pub(crate) fn print_octet(
     if number == 0 && reply == 0 && is_kept {
         return Ok(());
     }
-    print!(rt; "{index} {number}")?;
-    print_some(rt, octets::part(buffer, 0, reply))?;
-    println!(rt; "{}", if is_kept { "" } else { " past" })
+    let mut line = [0u8; LINE_SIZE];
+    let number_at = put_number(&mut line, Octets(0), b"", index);
+    let reply_at = put_number(&mut line, number_at, b" ", u64::from(number));
+    let next = put_some(&mut line, reply_at, octets::part(buffer, 0, reply));
+    let end = put_past(&mut line, next, is_kept);
+    print_line(rt, &mut line, end)
+}
+
+fn put_past(line: &mut [u8], at: Octets, is_kept: bool) -> Octets {
+    if is_kept {
+        return at;
+    }
+    put_words(line, at, b" past")
 }
 
 // A line for each record in use.
@@ -43,15 +57,24 @@ pub(crate) fn print_records(rt: &impl Print, records: &Records) -> io::Result<()
 
 fn print_record(rt: &impl Print, record: &Record) -> io::Result<()> {
     let length = record.length.0;
-    print!(rt; "record {:02X} {length}", record.attributes.tab)?;
-    print_some(rt, octets::part(&record.storage, 0, length))?;
-    println!(rt;)
+    let contents = octets::part(&record.storage, 0, length);
+    let mut line = [0u8; LINE_SIZE];
+    let length_at = put_hex(&mut line, Octets(0), b"record ", &[record.attributes.tab]);
+    let octets_at = put_number(&mut line, length_at, b" ", length as u64);
+    let next = put_some(&mut line, octets_at, contents);
+    print_line(rt, &mut line, next)
 }
 
 // A space and the octets; nothing where there are none.
-fn print_some(rt: &impl Print, octets: &[u8]) -> io::Result<()> {
-    if !octets.is_empty() {
-        print_octets(rt, b" ", octets)?;
+fn put_some(line: &mut [u8], at: Octets, octets: &[u8]) -> Octets {
+    if octets.is_empty() {
+        return at;
     }
-    Ok(())
+    put_hex(line, at, b" ", octets)
+}
+
+// The line is written whole, since a write for each part would make the list slower.
+fn print_line(rt: &impl Print, line: &mut [u8], at: Octets) -> io::Result<()> {
+    let end = put_words(line, at, b"\n");
+    rt.write_all(octets::part(line, 0, end.0))
 }

@@ -7,8 +7,10 @@ mod lines;
 mod tally;
 
 use lines::{Line, Vector, line_of};
+use numbers::Octets;
 use std::io;
 use tally::Tally;
+use text::{put_hex, put_number, put_words};
 
 // One octet more than the longest input, so that a longer one is seen to be too long.
 const READ_LIMIT: usize = 65536;
@@ -22,18 +24,39 @@ struct Report<'a> {
     total: Tally,
 }
 
+// An input may have thousands of these lines and of those below, so `text` puts them together: println! would take longer.
+fn print_no_vector(rt: &impl Print, line: u64) -> io::Result<()> {
+    let mut words = [0u8; 64];
+    let next = put_number(&mut words, Octets(0), b"line ", line);
+    let end = put_words(&mut words, next, b" is not a vector\n");
+    rt.write_all(octets::part(&words, 0, end.0))
+}
+
+fn print_difference(
+    rt: &impl Print,
+    line: u64,
+    way: &[u8],
+    found: [u8; 8],
+    expected: [u8; 8],
+) -> io::Result<()> {
+    let mut words = [0u8; 128];
+    let found_at = put_number(&mut words, Octets(0), b"line ", line);
+    let expected_at = put_hex(&mut words, found_at, way, &found);
+    let next = put_hex(&mut words, expected_at, b" expected ", &expected);
+    let end = put_words(&mut words, next, b"\n");
+    rt.write_all(octets::part(&words, 0, end.0))
+}
+
 // Whether the octets found are those expected; a line says where they are not.
 fn agrees(
     rt: &impl Print,
     line: u64,
-    way: &str,
+    way: &[u8],
     found: [u8; 8],
     expected: [u8; 8],
 ) -> io::Result<bool> {
     if found != expected {
-        let found = u64::from_be_bytes(found);
-        let expected = u64::from_be_bytes(expected);
-        println!(rt; "line {line} {way} {found:016X} expected {expected:016X}")?;
+        print_difference(rt, line, way, found, expected)?;
         return Ok(false);
     }
     Ok(true)
@@ -47,8 +70,8 @@ fn run_vector(rt: &impl Print, line: u64, vector: Vector<'_>) -> io::Result<Tall
         cipher,
         ..
     } = vector;
-    let enciphered = agrees(rt, line, "enciphered", des::encipher(key, plain), cipher)?;
-    let deciphered = agrees(rt, line, "deciphered", des::decipher(key, cipher), plain)?;
+    let enciphered = agrees(rt, line, b" enciphered ", des::encipher(key, plain), cipher)?;
+    let deciphered = agrees(rt, line, b" deciphered ", des::decipher(key, cipher), plain)?;
     Ok(Tally::one(enciphered, deciphered))
 }
 
@@ -98,7 +121,7 @@ impl<'a> Report<'a> {
             Line::Comment => {}
             Line::Boxes => boxes::print(rt)?,
             Line::Vector(vector) => return report.with_vector(rt, vector),
-            Line::Other => println!(rt; "line {} is not a vector", report.line)?,
+            Line::Other => print_no_vector(rt, report.line)?,
         }
         Ok(report)
     }

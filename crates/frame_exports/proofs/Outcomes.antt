@@ -53,7 +53,7 @@ module _ (s : List ℕ) (answer : Result Reading Fault) (read : answer_of_readin
     unfolding read_of
     verdict_good = sym (ap (λ (r : FrameRead). r.verdict) read) ∙ ap (λ (a : Result Reading Fault). (answer_of_reading a).verdict) good
 
-    fields_good : reading.fields ≡ fields_of reading.command s
+    pub fields_good : reading.fields ≡ fields_of reading.command s
     unfolding read_of fields_in
     fields_good = sym (ap (λ (a : Result Reading Fault). (answer_of_reading a).fields) good) ∙ ap (λ (r : FrameRead). r.fields) read ∙ rw verdict_good
 

@@ -61,7 +61,7 @@ later_test : ℕ → Bool
 later_test lead = tails (drop 2 (row_of lead))
 
 module _ (lead : ℕ) (octet : lead < 256) where
-  row_length : length (row_of lead) ≡ cond (ltb lead 0x80) 1 (cond (ltb lead 0xC2) 0 (cond (ltb lead 0xE0) 2 (cond (ltb lead 0xF0) 3 (cond (ltb lead 0xF5) 4 0))))
+  pub row_length : length (row_of lead) ≡ cond (ltb lead 0x80) 1 (cond (ltb lead 0xC2) 0 (cond (ltb lead 0xE0) 2 (cond (ltb lead 0xF0) 3 (cond (ltb lead 0xF5) 4 0))))
   unfolding table begins row_among row_of every length_test
   row_length = eqb-true _ _ (below length_test 256 refl lead octet)
 

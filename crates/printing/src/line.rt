@@ -1,34 +1,23 @@
 // Words, numbers, octets and frames on standard output.
 use numbers::Octets;
-use std::{fmt, io};
-
-// Octets in hexadecimal digits.
-#[derive(Clone, Copy)]
-struct Hex<'a>(&'a [u8]);
-
-impl fmt::Display for Hex<'_> {
-    fn fmt<W: fmt::Write>(&self, f: &mut fmt::Formatter<W>) -> fmt::Result {
-        for octet in self.0 {
-            write!(f, "{octet:02X}")?;
-        }
-        Ok(())
-    }
-}
+use std::io;
 
 pub fn print(rt: &impl Print, words: &[u8]) -> io::Result<()> {
     rt.write_all(words)
 }
 
-// Words, and a number after them.
+// Words, and a number after them. Words are octets and need not be text, so no `Display` writes them; both are written at once.
 pub fn print_number(rt: &impl Print, words: &[u8], n: usize) -> io::Result<()> {
-    print(rt, words)?;
-    print!(rt; "{n}")
+    let mut line = [0u8; 64];
+    let end = text::put_number(&mut line, Octets(0), words, n as u64);
+    print(rt, octets::part(&line, 0, end.0))
 }
 
-// Words, and octets after them.
+// Words, and octets after them, likewise.
 pub fn print_octets(rt: &impl Print, words: &[u8], octets: &[u8]) -> io::Result<()> {
-    print(rt, words)?;
-    print!(rt; "{}", Hex(octets))
+    let mut line = [0u8; 512];
+    let end = text::put_hex(&mut line, Octets(0), words, octets);
+    print(rt, octets::part(&line, 0, end.0))
 }
 
 // Octets as on the wire, after a bar, to the end of the line.

@@ -7,7 +7,7 @@ use Rattle.label.specs.declared.IllFormed.{IllFormed}
 use Rattle.numbers.specs.declared.Octets.{Octets}
 use Rattle.numbers.specs.declared.Characters.{Characters}
 
-measured_well : (text : List ℕ) (count : Characters) → given count ≡ measured text → true ≡ well_formed text
+pub measured_well : (text : List ℕ) (count : Characters) → given count ≡ measured text → true ≡ well_formed text
 unfolding measured judged
 measured_well text count e = go (well_formed text) refl
   where
@@ -15,7 +15,7 @@ measured_well text count e = go (well_formed text) refl
     go true h = sym h
     go false h = let r = rw h at e in let z : ◌≡◌ {A = ℕ} 0 1 = cc in let y : ⊥ = omega arith in absurd y
 
-measured_ill : (text : List ℕ) (n : ℕ) (offset : Octets) → refused_at n offset ≡ measured text → false ≡ well_formed text
+pub measured_ill : (text : List ℕ) (n : ℕ) (offset : Octets) → refused_at n offset ≡ measured text → false ≡ well_formed text
 unfolding measured judged
 measured_ill text n offset e = go (well_formed text) refl
   where
