@@ -1,7 +1,7 @@
 // The load curve that the flat's logger keeps: the meter's index in Wh at every half hour of the last day.
 use crate::gather::Gathered;
 use crate::stations::FLAT;
-use printing::print_record;
+use printing::{print_octets, print_record};
 use std::io;
 use swap::Kind;
 
@@ -18,7 +18,7 @@ const RISE: u32 = 250;
 pub(crate) fn log(rt: &impl Print, gathered: Gathered) -> io::Result<Gathered> {
     let indexes = indexes();
     let curve = indexes.as_flattened();
-    print!(rt; "curve TAB {TAB:02X}")?;
+    print_octets(rt, b"curve TAB ", &[TAB])?;
     print_record(rt, b" ", Kind::Long, curve, b"\n")?;
     Ok(gathered.with(FLAT, TAB, Kind::Long, curve))
 }

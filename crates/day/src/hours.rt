@@ -3,7 +3,7 @@ use crate::exchange::{Bus, exchange};
 use crate::gather::Gathered;
 use crate::primary::{Primary, Stage};
 use crate::stations::{FLAT, FLAT_KEY, address, is_label, new_room};
-use printing::print_record;
+use printing::{print_octets, print_record};
 use std::io;
 use swap::{Cursor, Entry, Kind, next_for, next_to_program};
 
@@ -56,7 +56,7 @@ fn taken(
         return Ok(gathered);
     };
     let kind = kind_of(tab);
-    print!(rt; "read  TAB {tab:02X}")?;
+    print_octets(rt, b"read  TAB ", &[tab])?;
     let data = octets::part(&contents.octets, 0, contents.length.0);
     print_record(rt, b" ", kind, data, b"\n")?;
     Ok(gathered.with_read(ads, tab, kind, contents))
@@ -97,7 +97,8 @@ fn program(rt: &impl Print, bus: Bus, tab: u8, data: &[u8], key: [u8; 8]) -> io:
     })?;
     let next = exchange(rt, asked, None)?;
     if let Stage::Done(_) = next.primary.stage {
-        println!(rt; "done  TAB {tab:02X} programmed")?;
+        print_octets(rt, b"done  TAB ", &[tab])?;
+        println!(rt; " programmed")?;
     }
     Ok(next)
 }
@@ -110,7 +111,7 @@ fn fitted<'a>(rt: &impl Print, file: &'a [u8], entry: Entry) -> io::Result<&'a [
     };
     let room = new_room(entry.tab);
     let kept = label::kept(data, room.octets, room.characters);
-    print!(rt; "fit   TAB {:02X}", entry.tab)?;
+    print_octets(rt, b"fit   TAB ", &[entry.tab])?;
     print_record(rt, b" ", Kind::Label, data, b" within ")?;
     print!(rt; "{} and {}", room.octets.0, room.characters.0)?;
     print_record(rt, b": ", Kind::Label, kept, b"\n")?;
@@ -126,7 +127,7 @@ pub(crate) fn compare_files(rt: &impl Print, old: &[u8], new: &[u8]) -> io::Resu
         return Ok(());
     };
     while let Ok(Some((entry, after))) = next_for(old_cursor, old, FLAT) {
-        print!(rt; "TAB {:02X}", entry.tab)?;
+        print_octets(rt, b"TAB ", &[entry.tab])?;
         let data = swap::cursor::content(old, entry);
         print_record(rt, b" old ", entry.kind, data, b"   | new ")?;
         new_cursor = print_beside(rt, entry.kind, new, new_cursor)?;

@@ -1,7 +1,7 @@
 // The wire: what one station sends, all others hear, octet by octet.
 use crate::filled::Filled;
 use card::Card;
-use printing::{print_card, print_frame};
+use printing::{print_card, print_frame, print_number, print_octets};
 use std::io;
 
 // The number that the host of a card lends with each octet. It is fixed, so that every day prints the same; a real host lends a fresh one that nobody can guess.
@@ -48,7 +48,10 @@ impl Sent {
         };
         let old = octets::octet(&self.frame.array, at);
         let turned = !old;
-        println!(rt; "wire  octet {at} turns from {old:02X} to {turned:02X}")?;
+        print_number(rt, b"wire  octet ", at)?;
+        print_octets(rt, b" turns from ", &[old])?;
+        print_octets(rt, b" to ", &[turned])?;
+        println!(rt;)?;
         let mut arrived = self;
         octets::put(&mut arrived.frame.array, at, &[turned]);
         Ok(arrived)

@@ -24,14 +24,7 @@ struct Report<'a> {
     total: Tally,
 }
 
-// An input may have thousands of these lines and of those below, so `text` puts them together: println! would take longer.
-fn print_no_vector(rt: &impl Print, line: u64) -> io::Result<()> {
-    let mut words = [0u8; 64];
-    let next = put_number(&mut words, Octets(0), b"line ", line);
-    let end = put_words(&mut words, next, b" is not a vector\n");
-    rt.write_all(octets::part(&words, 0, end.0))
-}
-
+// By `text`, whose clause says which digits an octet has.
 fn print_difference(
     rt: &impl Print,
     line: u64,
@@ -121,7 +114,7 @@ impl<'a> Report<'a> {
             Line::Comment => {}
             Line::Boxes => boxes::print(rt)?,
             Line::Vector(vector) => return report.with_vector(rt, vector),
-            Line::Other => print_no_vector(rt, report.line)?,
+            Line::Other => println!(rt; "line {} is not a vector", report.line)?,
         }
         Ok(report)
     }

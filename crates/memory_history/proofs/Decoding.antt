@@ -41,7 +41,7 @@ module _ (h : List ℕ) (there : room_width ≤ length h) where
   whole_memory_rest = rw (le-leb room_width (length h) there) (sym (drop-drop (size_at (drop room_width h)) room_width h))
 
 -- a call takes an octet or more, and no more than there are
-some_taken : (h : List ℕ) → 0 < length h → (0 < memory_size_at h) × (memory_size_at h ≤ length h)
+pub some_taken : (h : List ℕ) → 0 < length h → (0 < memory_size_at h) × (memory_size_at h ≤ length h)
 unfolding memory_size_at
 some_taken h p = by (leb room_width (length h)) refl
   where

@@ -24,7 +24,7 @@ pub fn print_octets(rt: &impl Print, words: &[u8], octets: &[u8]) -> io::Result<
 pub(crate) fn print_wire_octets(rt: &impl Print, octets: &[u8]) -> io::Result<()> {
     print!(rt; "   |")?;
     for octet in octets {
-        print!(rt; " {octet:02X}")?;
+        print_octets(rt, b" ", &[*octet])?;
     }
     println!(rt;)
 }
