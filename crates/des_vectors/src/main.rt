@@ -15,6 +15,9 @@ use text::{put_hex, put_number, put_words};
 // One octet more than the longest input, so that a longer one is seen to be too long.
 const READ_LIMIT: usize = 65536;
 
+// Enough for the line of a vector that does not come out right: under a hundred characters.
+const DIFFERENCE_SIZE: usize = 128;
+
 // What was found so far: up to which line, and the set at hand.
 #[derive(Clone, Copy)]
 struct Report<'a> {
@@ -32,7 +35,7 @@ fn print_difference(
     found: [u8; 8],
     expected: [u8; 8],
 ) -> io::Result<()> {
-    let mut words = [0u8; 128];
+    let mut words = [0u8; DIFFERENCE_SIZE];
     let found_at = put_number(&mut words, Octets(0), b"line ", line);
     let expected_at = put_hex(&mut words, found_at, way, &found);
     let next = put_hex(&mut words, expected_at, b" expected ", &expected);
